@@ -1,0 +1,4 @@
+-- What the proofs share.
+pub mod Signed
+pub mod Parts
+pub mod Rounding
