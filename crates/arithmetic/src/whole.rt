@@ -2,7 +2,7 @@
 ghost use mathlib.Core.Path.{_≡_};
 ghost use Prim.Native.Nat.{_-_};
 ghost use lib.IntN.{natAbs};
-ghost use Rattle.arithmetic.specs.Whole.{maxZ, minZ, up, down, mostOf, leastOf};
+ghost use Rattle.arithmetic.specs.Whole.{maxZ, minZ, up, down, mostOf, leastOf, withinOf};
 
 pub fn larger(a: i64, b: i64) -> i64
     ensures { λ r. ⌜ r ≡ maxZ a b ⌝ }
@@ -57,4 +57,14 @@ pub fn excess(a: u64, b: u64) -> u64
     ensures { λ r. ⌜ r ≡ a - b ⌝ }
 {
     if a <= b { 0 } else { a - b }
+}
+
+// Whether a number lies in a range, both ends included.
+pub fn within(low: i32, x: i32, high: i32) -> bool
+    ensures { λ r. ⌜ r ≡ withinOf low x high ⌝ }
+{
+    if low <= x {
+        return x <= high;
+    }
+    false
 }
