@@ -2,3 +2,4 @@
 pub mod Signed
 pub mod Parts
 pub mod Rounding
+pub mod Mirror

@@ -1,0 +1,2 @@
+-- The figures that are proved; `src/main.rt` runs the others.
+pub mod Table

@@ -1,0 +1,104 @@
+-- The starred figures of 01, 'Figures to check by': one table, one test over it, and one statement.
+-- Assumes nothing.
+use mathlib.Core.Path.{_≡_, refl, ap, ap₂}
+use mathlib.Core.Logic.{⊎-elim}
+use mathlib.Core.Bool.{Bool, true, false}
+use mathlib.Core.List.{List, [], _∷_, List·Memᴰ, List·Memᴰ·not-nil, List·Memᴰ·cases-cons}
+use Prim.Native.Nat.{ℕ}
+use lib.Dec.{T, eqb, eqb→eq}
+use lib.IntN.{ℤ, pos, negsuc, negℤ}
+use Rattle.arithmetic.specs.Whole.{leastOf}
+use Rattle.arithmetic.specs.Energy.{kwhOf, energyOf}
+use Rattle.arithmetic.specs.Money.{wholeOf, feeOf}
+
+-- a row of each kind, what it starts from before what comes of it
+pub data Figure : Type 0 where
+  -- unit-seconds, and the energy in kWh
+  energy : ℕ → ℕ → Figure
+  -- kWh billed and price in cent per MWh, and the fee in cent
+  fee : ℕ → ℤ → ℤ → Figure
+
+-- what the definitions give for a row
+unfoldable pub given : Figure → List ℤ
+given (energy unit-seconds kwh) = pos (energyOf unit-seconds .0) ∷ []
+given (fee kwh price cents) = feeOf record { 0 = kwh } price .0 ∷ []
+
+-- what 01 says
+unfoldable pub said : Figure → List ℤ
+said (energy unit-seconds kwh) = pos kwh ∷ []
+said (fee kwh price cents) = cents ∷ []
+
+unfoldable pub figures : List Figure
+figures =
+    energy 9719999 0
+    ∷ energy 9720000 1
+    ∷ fee 1 (pos 499) (pos 0)
+    ∷ fee 1 (pos 500) (pos 1)
+    ∷ fee 1 (negℤ (pos 499)) (pos 0)
+    ∷ fee 1 (negℤ (pos 500)) (negℤ (pos 1))
+    ∷ []
+
+-- ---- the test
+
+abbrev both : Bool → Bool → Bool
+both true b = b
+both false b = false
+
+abbrev sameZ : ℤ → ℤ → Bool
+sameZ (pos a) (pos b) = eqb a b
+sameZ (pos a) (negsuc b) = false
+sameZ (negsuc a) (pos b) = false
+sameZ (negsuc a) (negsuc b) = eqb a b
+
+abbrev same : List ℤ → List ℤ → Bool
+same [] [] = true
+same [] (y ∷ ys) = false
+same (x ∷ xs) [] = false
+same (x ∷ xs) (y ∷ ys) = both (sameZ x y) (same xs ys)
+
+unfoldable right : Figure → Bool
+right f = same (given f) (said f)
+
+abbrev all : List Figure → Bool
+all [] = true
+all (f ∷ fs) = both (right f) (all fs)
+
+tested : T (all figures)
+unfolding figures right given said energyOf kwhOf leastOf feeOf wholeOf
+tested = tt
+
+-- ---- and what it shows
+
+both-left : (a b : Bool) → T (both a b) → T a
+both-left true b t = tt
+both-left false b t = t
+
+both-right : (a b : Bool) → T (both a b) → T b
+both-right true b t = t
+both-right false b t = absurd t
+
+sameZ-is : (x y : ℤ) → T (sameZ x y) → x ≡ y
+sameZ-is (pos a) (pos b) t = ap pos (eqb→eq a b t)
+sameZ-is (pos a) (negsuc b) t = absurd t
+sameZ-is (negsuc a) (pos b) t = absurd t
+sameZ-is (negsuc a) (negsuc b) t = ap negsuc (eqb→eq a b t)
+
+same-is : (xs ys : List ℤ) → T (same xs ys) → xs ≡ ys
+same-is [] [] t = refl
+same-is [] (y ∷ ys) t = absurd t
+same-is (x ∷ xs) [] t = absurd t
+same-is (x ∷ xs) (y ∷ ys) t =
+    ap₂ _∷_ (sameZ-is x y (both-left (sameZ x y) (same xs ys) t)) (same-is xs ys (both-right (sameZ x y) (same xs ys) t))
+
+each : (fs : List Figure) → T (all fs) → (f : Figure) → List·Memᴰ f fs → given f ≡ said f
+unfolding right
+each [] t f m = absurd (List·Memᴰ·not-nil m)
+each (g ∷ fs) t f m =
+    ⊎-elim
+    (λ e. rw e (same-is (given g) (said g) (both-left (right g) (all fs) t)))
+    (λ r. each fs (both-right (right g) (all fs) t) f r)
+    (List·Memᴰ·cases-cons m)
+
+-- each row of the table: what the definitions give is what 01 says
+pub figures-right : (f : Figure) → List·Memᴰ f figures → given f ≡ said f
+figures-right = each figures tested
