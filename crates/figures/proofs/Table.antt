@@ -1,42 +1,23 @@
--- The starred figures of 01, 'Figures to check by': one table, one test over it, and one statement.
+-- The starred figures of 01, 'Figures to check by': one test over the table of specs/Figures.antt, and one statement.
 -- Assumes nothing.
 use mathlib.Core.Path.{_≡_, refl, ap, ap₂}
 use mathlib.Core.Logic.{⊎-elim}
 use mathlib.Core.Bool.{Bool, true, false}
 use mathlib.Core.List.{List, [], _∷_, List·Memᴰ, List·Memᴰ·not-nil, List·Memᴰ·cases-cons}
-use Prim.Native.Nat.{ℕ}
 use lib.Dec.{T, eqb, eqb→eq}
-use lib.IntN.{ℤ, pos, negsuc, negℤ}
-use Rattle.arithmetic.specs.Whole.{leastOf}
+use lib.IntN.{ℤ, pos, negsuc}
+use Rattle.arithmetic.specs.Whole.{maxZ, minZ, leastOf}
+use Rattle.arithmetic.specs.Power.{unitsOf}
 use Rattle.arithmetic.specs.Energy.{kwhOf, energyOf}
 use Rattle.arithmetic.specs.Money.{wholeOf, feeOf}
-
--- a row of each kind, what it starts from before what comes of it
-pub data Figure : Type 0 where
-  -- unit-seconds, and the energy in kWh
-  energy : ℕ → ℕ → Figure
-  -- kWh billed and price in cent per MWh, and the fee in cent
-  fee : ℕ → ℤ → ℤ → Figure
-
--- what the definitions give for a row
-unfoldable pub given : Figure → List ℤ
-given (energy unit-seconds kwh) = pos (energyOf unit-seconds .0) ∷ []
-given (fee kwh price cents) = feeOf record { 0 = kwh } price .0 ∷ []
-
--- what 01 says
-unfoldable pub said : Figure → List ℤ
-said (energy unit-seconds kwh) = pos kwh ∷ []
-said (fee kwh price cents) = cents ∷ []
-
-unfoldable pub figures : List Figure
-figures =
-    energy 9719999 0
-    ∷ energy 9720000 1
-    ∷ fee 1 (pos 499) (pos 0)
-    ∷ fee 1 (pos 500) (pos 1)
-    ∷ fee 1 (negℤ (pos 499)) (pos 0)
-    ∷ fee 1 (negℤ (pos 500)) (negℤ (pos 1))
-    ∷ []
+use Rattle.channel.specs.Tolerance.{fivePercentMore, fivePercentLess, ogtOf, ugtOf}
+use Rattle.values.specs.Values.{plus, acceptance, surplus, under-delivery, shortfall}
+use Rattle.series.specs.Sums.{overOf}
+use Rattle.series.specs.Scan.{each}
+use Rattle.series.specs.Slices.{sliceOf}
+use Rattle.shares.specs.Largest.{pickOf, marked, marksOf}
+use Rattle.shares.specs.Shares.{handedOut, shareFloor, remainder, added, partedOf, sharesOf}
+use Rattle.figures.specs.Figures.{Figure, slicesAbove, in32, given, said, figures}
 
 -- ---- the test
 
@@ -64,7 +45,10 @@ all [] = true
 all (f ∷ fs) = both (right f) (all fs)
 
 tested : T (all figures)
-unfolding figures right given said energyOf kwhOf leastOf feeOf wholeOf
+unfolding figures right given said slicesAbove in32
+    maxZ minZ leastOf unitsOf kwhOf energyOf wholeOf feeOf fivePercentMore fivePercentLess ogtOf ugtOf
+    plus acceptance surplus under-delivery shortfall overOf each sliceOf
+    pickOf marked marksOf handedOut shareFloor remainder added partedOf sharesOf
 tested = tt
 
 -- ---- and what it shows
@@ -90,15 +74,15 @@ same-is (x ∷ xs) [] t = absurd t
 same-is (x ∷ xs) (y ∷ ys) t =
     ap₂ _∷_ (sameZ-is x y (both-left (sameZ x y) (same xs ys) t)) (same-is xs ys (both-right (sameZ x y) (same xs ys) t))
 
-each : (fs : List Figure) → T (all fs) → (f : Figure) → List·Memᴰ f fs → given f ≡ said f
+rows-right : (fs : List Figure) → T (all fs) → (f : Figure) → List·Memᴰ f fs → given f ≡ said f
 unfolding right
-each [] t f m = absurd (List·Memᴰ·not-nil m)
-each (g ∷ fs) t f m =
+rows-right [] t f m = absurd (List·Memᴰ·not-nil m)
+rows-right (g ∷ fs) t f m =
     ⊎-elim
     (λ e. rw e (same-is (given g) (said g) (both-left (right g) (all fs) t)))
-    (λ r. each fs (both-right (right g) (all fs) t) f r)
+    (λ r. rows-right fs (both-right (right g) (all fs) t) f r)
     (List·Memᴰ·cases-cons m)
 
 -- each row of the table: what the definitions give is what 01 says
 pub figures-right : (f : Figure) → List·Memᴰ f figures → given f ≡ said f
-figures-right = each figures tested
+figures-right = rows-right figures tested

@@ -1,1 +1,2 @@
 pub mod Jump
+pub mod Figures
