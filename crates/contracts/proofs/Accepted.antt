@@ -17,6 +17,7 @@ use Rattle.arithmetic.proofs.Signed.{le-true, up-pos, down-pos, down-zero}
 use Rattle.refusals.specs.Refusals.{numberOf}
 use Rattle.refusals.specs.declared.Refusal.{Refusal}
 use Rattle.refusals.specs.declared.Refusal.the-variants.{None, TooManyContracts, BadIdentifier, IdentifierTaken, BadAward, AwardsTooHigh, BadPrice, PriceTooLow}
+use Rattle.arithmetic.specs.Whole.{withinOf}
 use Rattle.contracts.specs.Identifier.{wellFormed, keptLength}
 use Rattle.contracts.specs.Book.{listed, full, taken, awardInRange, sumOfAwards, awardsTooHigh, priceInRange, belowLast, contractRefusal, emptyBook, contractOf, withContract}
 use Rattle.contracts.specs.Sound.{Fair, Sound}
@@ -78,7 +79,7 @@ module _ (book : Book) (identifier : List ℕ) (award price : ℤ) (h : full boo
 -- ---- what is in range
 
 award-some : (z : ℤ) → awardInRange z ≡ true → (1 ≤ up z) × (up z ≤ 2000000)
-unfolding awardInRange
+unfolding awardInRange withinOf
 award-some z e =
     let t = both _ _ e in
     let low : up (pos 1) + down z ≤ up z + down (pos 1) = le-true (pos 1) z (t .0) in

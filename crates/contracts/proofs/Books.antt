@@ -2,18 +2,18 @@
 -- Assumes nothing.
 use Prim.Native.Nat.{ℕ, zero, suc, _+_, _-_, _≤_, _<_}
 use mathlib.Core.Path.{_≡_, refl, sym, ap, _∙_}
-use mathlib.Core.Bool.{true, false, _&&_}
+use mathlib.Core.Bool.{true, false}
 use mathlib.Core.List.{List, [], _∷_, map}
 use native.Mathlib.Omega.{arith}
 use native.Mathlib.Numerals.{add-one}
 use lib.IntN.{ℤ, pos}
-use lib.Signed.{leZ, ltZ}
+use lib.Signed.{ltZ}
 use lib.ListN.{length-map, length, getD, take, drop, drop-of-length-le}
 use lib.Seq.{drop-cons, getD-take, length-take-le, take-all}
 use mir.Syntax.{w32, w64}
 use mir.Val.{SFits, toZ, ofZ}
 use mir.ValLaws.{toZ-ofZ}
-use Rattle.arithmetic.proofs.Signed.{wide, true-le, false-le, lt-true, lt-false}
+use Rattle.arithmetic.proofs.Signed.{wide}
 use Rattle.contracts.specs.Identifier.{sameBytes}
 use Rattle.contracts.specs.Book.{listed, Held, holds, sumOfAwards, belowLast}
 use Rattle.contracts.specs.declared.book.Awarded.{Awarded}
@@ -99,12 +99,3 @@ last-before price cs n z h k =
 
 pub widened : {z : ℤ} → SFits w32 z → toZ w64 (ofZ w64 (toZ w32 (ofZ w32 z))) ≡ z
 widened {z} f = rw (toZ-ofZ w32 z f) (toZ-ofZ w64 z (wide f))
-
--- a range, tested from below
-
-module _ (low high z : ℤ) where
-  pub below-range : ltZ z low ≡ true → (leZ low z && leZ z high) ≡ false
-  below-range e = rw (false-le low z (lt-true z low e))
-
-  pub from-low : ltZ z low ≡ false → (leZ low z && leZ z high) ≡ leZ z high
-  from-low e = rw (true-le low z (lt-false z low e))

@@ -1,11 +1,12 @@
 // The contracts of one direction, in the order they were given: cheapest first.
 ghost use mathlib.Core.Path.{_≡_};
 ghost use Prim.Native.Nat.{_≤_, _*_, _^_};
-ghost use Rattle.contracts.specs.Book.{emptyBook, Held, listed, holds, sumOfAwards, awardInRange, priceInRange, awardsTooHigh, belowLast, contractOf, withContract, contractRefusal};
+ghost use Rattle.contracts.specs.Book.{emptyBook, Held, listed, holds, sumOfAwards, awardsTooHigh, belowLast, contractOf, withContract, contractRefusal};
 use crate::identifier::kept_length;
 use crate::identifier::padded;
 use crate::identifier::same;
 use crate::identifier::well_formed;
+use arithmetic::whole::within;
 use refusals::Refusal;
 
 // An accepted contract: its identifier with zeros after it, the identifier's length, the award in kW, the price in cent per MWh.
@@ -21,24 +22,7 @@ pub struct Book {
     count: usize,
 }
 
-fn award_in_range(award: i32) -> bool
-    ensures { λ r. ⌜ r ≡ awardInRange award ⌝ }
-{
-    if award < 1 {
-        return false;
-    }
-    award <= 2000000
-}
-
-fn price_in_range(price: i32) -> bool
-    ensures { λ r. ⌜ r ≡ priceInRange price ⌝ }
-{
-    if price < -9999999 {
-        return false;
-    }
-    price <= 9999999
-}
-
+// A contract as the book keeps it.
 fn contract(identifier: &[u8], award: i32, price: i32) -> Awarded
     ensures { λ r. ⌜ r ≡ contractOf (now (identifier .entry)) award price ⌝ }
 {
@@ -162,13 +146,13 @@ impl Book {
         if other.holds(bytes) {
             return Refusal::IdentifierTaken;
         }
-        if !award_in_range(award) {
+        if !within(1, award, 2000000) {
             return Refusal::BadAward;
         }
         if self.awards_too_high(award) {
             return Refusal::AwardsTooHigh;
         }
-        if !price_in_range(price) {
+        if !within(-9999999, price, 9999999) {
             return Refusal::BadPrice;
         }
         if self.below_last(price) {

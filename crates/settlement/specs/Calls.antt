@@ -49,6 +49,11 @@ pub record Admitted (samples filled taken quarters : ℕ) (setpoint actual : ℤ
   pub is : r ≡ sampleRefusal samples filled taken quarters setpoint actual
   pub room : numberOf r ≡ 0 → filled < samples
 
+-- taking: 1 when no quarter hour waits
+unfoldable pub takeRefusal : ℕ → ℕ → ℕ → ℕ → Refusal
+takeRefusal samples filled taken quarters =
+    cond (ltb filled samples) WrongMoment (cond (leb quarters taken) WrongMoment None)
+
 -- ending: 1 before all are taken, and where there is no run
 unfoldable pub endRefusal : ℕ → ℕ → Refusal
 endRefusal taken quarters = cond (eqb quarters 0) WrongMoment (cond (ltb taken quarters) WrongMoment None)

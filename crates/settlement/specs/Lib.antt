@@ -1,2 +1,7 @@
+pub mod Blank
 pub mod Calls
+pub mod Powers
+pub mod Quarter
+pub mod Room
 pub mod Run
+pub mod Sums

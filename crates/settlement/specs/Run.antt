@@ -3,7 +3,7 @@ use Prim.Native.Nat.{ℕ, _+_}
 use mathlib.Core.Bool.{Bool, true, false, cond, not}
 use mathlib.Core.List.{List}
 use lib.IntN.{ℤ, pos}
-use lib.ListN.{set, replicate}
+use lib.ListN.{set, take, replicate}
 use Rattle.arithmetic.specs.Whole.{up, leastOf}
 use Rattle.arithmetic.specs.declared.date.Date.{Date}
 use Rattle.refusals.specs.declared.Refusal.{Refusal}
@@ -17,7 +17,17 @@ use Rattle.refusals.specs.declared.Refusal.the-variants.{WrongMoment}
 use Rattle.values.specs.declared.direction.Direction.{Direction}
 use Rattle.values.specs.declared.direction.Direction.the-variants.{Positive, Negative}
 use Rattle.values.specs.Part.{mirrorOf}
+use Rattle.contracts.specs.declared.book.Awarded.{Awarded}
 use Rattle.contracts.specs.declared.book.Book.{Book}
+use Rattle.series.specs.Scan.{each}
+use Rattle.settlement.specs.Blank.{kwh, noLines}
+use Rattle.settlement.specs.Quarter.{quarterOf}
+use Rattle.settlement.specs.Sums.{summedOf}
+use Rattle.settlement.specs.declared.quarter.Settled.{Settled}
+use Rattle.settlement.specs.declared.sheet.Sheet.{Sheet}
+use Rattle.settlement.specs.declared.sheet.Terms.{Terms}
+use Rattle.settlement.specs.declared.sums.Sums.{Sums}
+use Rattle.settlement.specs.declared.run.Taken.{Taken}
 use Rattle.contracts.specs.Book.{emptyBook, contractRefusal, withContract}
 use Rattle.settlement.specs.declared.input.Contract.{Contract}
 use Rattle.settlement.specs.declared.input.Header.{Header}
@@ -26,7 +36,7 @@ use Rattle.settlement.specs.declared.run.Opened.{Opened}
 use Rattle.settlement.specs.declared.run.Answer.{Answer}
 use Rattle.settlement.specs.declared.run.Ended.{Ended}
 use Rattle.settlement.specs.declared.run.Heading.{Heading}
-use Rattle.settlement.specs.Calls.{intervalOf, openRefusal, sampleRefusal, endRefusal, unbegun}
+use Rattle.settlement.specs.Calls.{intervalOf, openRefusal, sampleRefusal, endRefusal, unbegun, takeRefusal}
 
 -- a run with nothing in it yet
 unfoldable pub freshRun : Date → Interval → ℕ → ℕ → Run
@@ -136,6 +146,76 @@ withContractIn run c identifier =
 
 unfoldable pub contractedOf : Run → Contract → List ℕ → Answer
 contractedOf run c identifier = answerOf (contractGround run c identifier) (withContractIn run c identifier) run
+
+-- a contract's award and price, as the quarter hour takes them
+unfoldable pub termsOf : Awarded → Terms
+termsOf c = record { award = c .award; price = c .price }
+
+-- how many contracts a list holds
+unfoldable pub heldOf : Book → ℕ
+heldOf book = leastOf (book .count) 32
+
+abbrev pub termsIn : Book → List Terms
+termsIn book = take (heldOf book) (each termsOf (book .contracts))
+
+-- the quarter hour at hand, from the channel where it began
+unfoldable pub quarterIn : Run → Settled
+quarterIn run =
+    quarterOf (run .channel) (run .channel .interval) (take (samplesOf (run .channel)) (run .setpoints))
+    (take (samplesOf (run .channel)) (run .actuals)) (termsIn (run .positive)) (termsIn (run .negative))
+
+-- the sums of a run, with those of a quarter hour
+unfoldable pub sumsAfter : Run → Settled → Sums
+sumsAfter run quarter =
+    summedOf (summedOf (record { fees = run .fees; penalties = run .penalties }) (quarter .positive .lines)) (quarter .negative .lines)
+
+-- the run after a quarter hour
+unfoldable pub settledOf : Run → Settled → Run
+settledOf run quarter =
+    record {
+      date = run .date;
+      quarters = run .quarters;
+      taken = run .taken + 1;
+      positive = run .positive;
+      negative = run .negative;
+      channel = quarter .channel;
+      setpoints = run .setpoints;
+      actuals = run .actuals;
+      filled = 0;
+      fees = sumsAfter run quarter .fees;
+      penalties = sumsAfter run quarter .penalties;
+    }
+
+-- the figures of nothing
+unfoldable pub noSheet : Sheet
+noSheet =
+    record {
+      pool = record {
+        setpoint = kwh 0;
+        actual = kwh 0;
+        acceptance = kwh 0;
+        surplus = kwh 0;
+        shortfall = kwh 0;
+        share = kwh 0;
+        «under_delivery» = kwh 0;
+        billed = kwh 0;
+      };
+      lines = noLines;
+      count = 0;
+    }
+
+unfoldable pub takeGround : Run → Refusal
+takeGround run = takeRefusal (samplesOf (run .channel)) (run .filled) (run .taken) (run .quarters)
+
+unfoldable pub takenOf : Run → Taken
+takenOf run =
+    record {
+      run = cond (accepted (takeGround run)) (settledOf run (quarterIn run)) run;
+      refusal = takeGround run;
+      quarter = run .taken;
+      positive = cond (accepted (takeGround run)) (quarterIn run .positive) noSheet;
+      negative = cond (accepted (takeGround run)) (quarterIn run .negative) noSheet;
+    }
 
 -- the end's figures stand in the run at any time; they count where nothing is refused
 unfoldable pub endedOf : Run → Ended

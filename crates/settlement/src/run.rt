@@ -2,13 +2,23 @@
 use crate::input::Contract;
 use crate::input::Header;
 use crate::input::Sample;
+use crate::quarter::Settled;
+use crate::quarter::quarter_hour;
+use crate::sheet::Line;
+use crate::sheet::Pool;
+use crate::sheet::Sheet;
+use crate::sheet::Terms;
+use crate::sums::Sums;
+use crate::sums::with_lines;
 use arithmetic::date::Date;
+use arithmetic::energy::Kwh;
 use arithmetic::money::Cents;
 use arithmetic::whole::above_zero;
 use arithmetic::whole::least;
 use arithmetic::whole::within;
 use channel::Channel;
 use channel::interval::Interval;
+use contracts::book::Awarded;
 use contracts::book::Book;
 use refusals::Refusal;
 use values::direction::Direction;
@@ -17,8 +27,12 @@ ghost use Prim.Native.Nat.{ℕ, _≤_, _<_};
 ghost use Rattle.refusals.specs.Refusals.{numberOf};
 ghost use Rattle.values.specs.Part.{mirrorOf};
 ghost use Rattle.arithmetic.specs.Whole.{up, leastOf};
-ghost use Rattle.settlement.specs.Calls.{secondsKnown, intervalOf, openRefusal, powerInRange, sampleRefusal, endRefusal, unbegun, Admitted};
-ghost use Rattle.settlement.specs.Run.{freshRun, noRun, openedOf, sampledOf, endedOf, headingOf, samplesOf, bookOf, withBook, contractGround, contractedOf};
+ghost use Rattle.settlement.specs.Calls.{secondsKnown, intervalOf, openRefusal, powerInRange, sampleRefusal, endRefusal, unbegun, takeRefusal, Admitted};
+ghost use Rattle.settlement.specs.Run.{freshRun, noRun, openedOf, sampledOf, endedOf, headingOf, samplesOf, bookOf, withBook, contractGround, contractedOf, termsOf, heldOf, termsIn, noSheet, quarterIn, settledOf, takenOf};
+ghost use Rattle.settlement.specs.Quarter.{quarterOf};
+ghost use Rattle.settlement.specs.Sums.{summedOf};
+ghost use Rattle.series.specs.Scan.{each};
+ghost use lib.ListN.{take};
 
 // The samples of the quarter hour at hand are kept until it is taken; the channel stands where that quarter hour began.
 pub struct Run {
@@ -45,6 +59,15 @@ pub struct Opened {
 pub struct Answer {
     pub run: Run,
     pub refusal: Refusal,
+}
+
+// What taking answers: the quarter hour's number from 0, and its figures in both directions; nothing in them where it is refused.
+pub struct Taken {
+    pub run: Run,
+    pub refusal: Refusal,
+    pub quarter: u8,
+    pub positive: Sheet,
+    pub negative: Sheet,
 }
 
 // What ending answers: the quarter hours taken, and the sums of their fees and penalties.
@@ -294,6 +317,75 @@ impl Run {
         }
     }
 
+    // The quarter hour at hand, from its samples.
+    fn settled(self, samples: usize) -> Settled
+        requires { ⌜ samples ≡ samplesOf (self .channel) ⌝ }
+        ensures { λ r. ⌜ r ≡ quarterIn self ⌝ }
+    {
+        let channel = self.channel;
+        let setpoints = self.setpoints;
+        let actuals = self.actuals;
+        let positive = self.positive;
+        let negative = self.negative;
+        held_quarter(channel, setpoints, actuals, samples, positive, negative)
+    }
+
+    // The run after a quarter hour: the channel led on, its fees and penalties added, room for the next samples.
+    fn after(mut self, quarter: Settled) -> Run
+        requires { ⌜ self .taken < 255 ⌝ }
+        ensures { λ r. ⌜ r ≡ settledOf self quarter ⌝ }
+    {
+        let so_far = self.fees;
+        let owed = self.penalties;
+        let sums = Sums {
+            fees: so_far,
+            penalties: owed,
+        };
+        let above = quarter.positive;
+        let below = quarter.negative;
+        let positive = above.lines;
+        let negative = below.lines;
+        let all = with_lines(with_lines(sums, positive), negative);
+        let channel = quarter.channel;
+        self.channel = channel;
+        self.taken = self.taken + 1;
+        self.filled = 0;
+        let fees = all.fees;
+        let penalties = all.penalties;
+        self.fees = fees;
+        self.penalties = penalties;
+        self
+    }
+
+    // The finished quarter hour's figures.
+    pub fn take(self) -> Taken
+        ensures { λ r. ⌜ r ≡ takenOf self ⌝ }
+    {
+        let channel = self.channel;
+        let samples = samples_of(channel);
+        let taken = self.taken;
+        let refusal = take_refusal(samples, self.filled, taken, self.quarters);
+        if refusal.number() != 0 {
+            return Taken {
+                run: self,
+                refusal: refusal,
+                quarter: taken,
+                positive: no_sheet(),
+                negative: no_sheet(),
+            };
+        }
+        let quarter = self.settled(samples);
+        let above = quarter.positive;
+        let below = quarter.negative;
+        Taken {
+            run: self.after(quarter),
+            refusal: refusal,
+            quarter: taken,
+            positive: above,
+            negative: below,
+        }
+    }
+
     // The end, once every quarter hour was taken; it can be asked for again.
     pub fn end(self) -> Ended
         ensures { λ r. ⌜ r ≡ endedOf self ⌝ }
@@ -336,4 +428,110 @@ fn end_refusal(taken: u8, quarters: u8) -> Refusal
         return Refusal::WrongMoment;
     }
     Refusal::None
+}
+
+// Why taking is refused: no quarter hour waits.
+fn take_refusal(samples: usize, filled: usize, taken: u8, quarters: u8) -> Refusal
+    ensures { λ r. ⌜ (r ≡ takeRefusal samples filled taken quarters) × ((numberOf r ≡ 0 → taken < 255)) ⌝ }
+{
+    if filled < samples {
+        return Refusal::WrongMoment;
+    }
+    if quarters <= taken {
+        return Refusal::WrongMoment;
+    }
+    Refusal::None
+}
+
+fn terms_of(contract: Awarded) -> Terms
+    ensures { λ r. ⌜ r ≡ termsOf contract ⌝ }
+{
+    Terms {
+        award: contract.award,
+        price: contract.price,
+    }
+}
+
+// The awards and prices of a contract list.
+fn terms(contracts: [Awarded; 32]) -> [Terms; 32]
+    ensures { λ r. ⌜ r ≡ each termsOf contracts ⌝ }
+{
+    let mut out = [Terms { award: 0, price: 0 }; 32];
+    let mut k = 0;
+    while k < 32 {
+        out[k] = terms_of(contracts[k]);
+        k += 1;
+    }
+    out
+}
+
+// How many contracts a list holds, whatever its count says.
+fn held(book: Book) -> usize
+    ensures { λ r. ⌜ (r ≡ heldOf book) × (r ≤ 32) ⌝ }
+{
+    let count = book.count();
+    if count <= 32 {
+        return count;
+    }
+    32
+}
+
+// The figures of nothing.
+fn no_sheet() -> Sheet
+    ensures { λ r. ⌜ r ≡ noSheet ⌝ }
+{
+    let line = Line {
+        setpoint: Kwh(0),
+        actual: Kwh(0),
+        acceptance: Kwh(0),
+        shortfall: Kwh(0),
+        share: Kwh(0),
+        under_delivery: Kwh(0),
+        billed: Kwh(0),
+        fee: Cents(0),
+        penalty: Cents(0),
+    };
+    let pool = Pool {
+        setpoint: Kwh(0),
+        actual: Kwh(0),
+        acceptance: Kwh(0),
+        surplus: Kwh(0),
+        shortfall: Kwh(0),
+        share: Kwh(0),
+        under_delivery: Kwh(0),
+        billed: Kwh(0),
+    };
+    let lines = [line; 32];
+    Sheet {
+        pool: pool,
+        lines: lines,
+        count: 0,
+    }
+}
+
+// The quarter hour of the first samples of two arrays.
+fn held_quarter(
+    channel: Channel,
+    setpoints: [i32; 900],
+    actuals: [i32; 900],
+    samples: usize,
+    positive: Book,
+    negative: Book,
+) -> Settled
+    requires { ⌜ samples ≡ samplesOf channel ⌝ }
+    ensures { λ r. ⌜ r ≡ quarterOf channel (channel .interval) (take samples setpoints) (take samples actuals) (termsIn positive) (termsIn negative) ⌝ }
+{
+    let above = terms(positive.contracts());
+    let below = terms(negative.contracts());
+    let interval = channel.interval();
+    quarter_hour(
+        channel,
+        &setpoints[..samples],
+        &actuals[..samples],
+        above,
+        held(positive),
+        below,
+        held(negative),
+        interval,
+    )
 }

@@ -1,0 +1,99 @@
+// Text, written into a lent buffer from a place on. Each function answers the place after its text. What lies past the
+// buffer's end is not written, so no buffer is too short for a call, and the same call on one byte measures a text.
+use arithmetic::date::Date;
+use arithmetic::whole::magnitude;
+ghost use mathlib.Core.List.{[], _∷_, _++_};
+ghost use Rattle.print.specs.Decimal.{twoDigits, fourDigits, digits, numberText, dateText, hyphen, tab, lineEnd};
+ghost use Rattle.print.specs.Print.{Wrote};
+
+// The last place that there is a number for: none comes after it, and no buffer reaches it.
+const LAST: usize = 18446744073709551615;
+
+pub fn put(buf: &mut [u8], at: usize, byte: u8) -> usize
+    ensures { λ r. ⌜ Wrote (now (buf .entry)) at (byte ∷ []) r (now (buf .exit)) ⌝ }
+{
+    if at < buf.len() {
+        buf[at] = byte;
+        return at + 1;
+    }
+    if at == LAST {
+        return at;
+    }
+    at + 1
+}
+
+pub fn put_bytes(buf: &mut [u8], at: usize, bytes: &[u8]) -> usize
+    ensures { λ r. ⌜ Wrote (now (buf .entry)) at (now (bytes .entry)) r (now (buf .exit)) ⌝ }
+{
+    let mut next = at;
+    let mut i = 0;
+    while i < bytes.len() {
+        next = put(buf, next, bytes[i]);
+        i += 1;
+    }
+    next
+}
+
+pub fn put_tab(buf: &mut [u8], at: usize) -> usize
+    ensures { λ r. ⌜ Wrote (now (buf .entry)) at tab r (now (buf .exit)) ⌝ }
+{
+    put(buf, at, b'\t')
+}
+
+pub fn put_line_end(buf: &mut [u8], at: usize) -> usize
+    ensures { λ r. ⌜ Wrote (now (buf .entry)) at lineEnd r (now (buf .exit)) ⌝ }
+{
+    put(buf, at, b'\n')
+}
+
+// A number that is never negative, in as many digits as it needs.
+pub fn put_count(buf: &mut [u8], at: usize, n: u64) -> usize
+    ensures { λ r. ⌜ Wrote (now (buf .entry)) at (digits n) r (now (buf .exit)) ⌝ }
+{
+    if n < 10 {
+        return put(buf, at, 48 + n as u8);
+    }
+    let last = put_count(buf, at, n / 10);
+    put(buf, last, 48 + (n % 10) as u8)
+}
+
+pub fn put_number(buf: &mut [u8], at: usize, n: i64) -> usize
+    ensures { λ r. ⌜ Wrote (now (buf .entry)) at (numberText n) r (now (buf .exit)) ⌝ }
+{
+    if n < 0 {
+        let first = put(buf, at, b'-');
+        return put_count(buf, first, magnitude(n));
+    }
+    put_count(buf, at, magnitude(n))
+}
+
+fn put_two(buf: &mut [u8], at: usize, n: u16) -> usize
+    ensures { λ r. ⌜ Wrote (now (buf .entry)) at (twoDigits n) r (now (buf .exit)) ⌝ }
+{
+    let ones = put(buf, at, 48 + (n / 10 % 10) as u8);
+    put(buf, ones, 48 + (n % 10) as u8)
+}
+
+fn put_four(buf: &mut [u8], at: usize, n: u16) -> usize
+    ensures { λ r. ⌜ Wrote (now (buf .entry)) at (fourDigits n) r (now (buf .exit)) ⌝ }
+{
+    let low = put_two(buf, at, n / 100);
+    put_two(buf, low, n)
+}
+
+// The part of a date that follows another.
+fn put_part(buf: &mut [u8], at: usize, n: u8) -> usize
+    ensures { λ r. ⌜ Wrote (now (buf .entry)) at (hyphen ++ twoDigits n) r (now (buf .exit)) ⌝ }
+{
+    let next = put(buf, at, b'-');
+    put_two(buf, next, n as u16)
+}
+
+// Always ten bytes: of a year above 9999, and of a month or a day above 99, the last digits.
+pub fn put_date(buf: &mut [u8], at: usize, date: Date) -> usize
+    ensures { λ r. ⌜ Wrote (now (buf .entry)) at (dateText date) r (now (buf .exit)) ⌝ }
+{
+    let month = put_four(buf, at, date.year);
+    let day = put_part(buf, month, date.month);
+    put_part(buf, day, date.day)
+}

@@ -1,0 +1,13 @@
+-- `settlement::claim::no_claims` meets its contract.
+-- Assumes nothing.
+use Rattle.settlement.specs.Blank.{noClaim, noClaims}
+use mathlib.Core.Path.{refl}
+use Rattle.settlement.proofs.claim.no_claims.Statement.{statement}
+use Rattle.settlement.proofs.claim.no_claims.Tie as tie
+
+returns : tie.Need-returns
+unfolding noClaim noClaims
+returns c = refl
+
+pub no-claims-spec : {M : Type 1} → statement M
+no-claims-spec = tie.close (tie.spec returns)
