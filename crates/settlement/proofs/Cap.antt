@@ -1,6 +1,6 @@
 -- A contract's cap is never below 0, for any samples and bounds: UGT⁺ is at most setpoint⁺ in every sample, and slicing and rounding keep order.
 -- Assumes nothing.
-use mathlib.Core.Path.{_≡_, refl, sym, ap, _∙_}
+use mathlib.Core.Path.{_≡_}
 use mathlib.Core.List.{List, [], _∷_}
 use Prim.Native.Nat.{ℕ, _+_, _*_, _-_, _≤_}
 use native.Mathlib.Omega.{arith}
@@ -12,7 +12,6 @@ use Rattle.series.specs.Scan.{outputs}
 use Rattle.series.proofs.Order.{Below, none, more, sliced-mono}
 use Rattle.values.specs.declared.direction.Direction.{Direction}
 use Rattle.values.specs.declared.value.Quantity.the-variants.{Setpoint, Acceptance, Floor}
-use Rattle.values.specs.Part.{amountOf}
 use Rattle.values.proofs.Small.{floor-under}
 use Rattle.settlement.specs.Powers.{Samples, next, powerAt, powersOf}
 use Rattle.settlement.specs.Quarter.{Cut, sliceEnergy, underOf, capOf}

@@ -1,8 +1,8 @@
 -- The energies of all contracts, quantity by quantity, are the energies of each contract, contract by contract; and the pool is the slice from 0 up.
 -- Assumes nothing.
-use mathlib.Core.Path.{_≡_, refl, sym, ap, _∙_}
+use mathlib.Core.Path.{_≡_, refl, ap, _∙_}
 use mathlib.Core.List.{List, [], _∷_, _++_}
-use Prim.Native.Nat.{ℕ, zero, suc, _+_, _*_, _^_, _≤_, _<_}
+use Prim.Native.Nat.{ℕ, zero, suc, _+_, _^_, _≤_, _<_}
 use native.Mathlib.Omega.{arith}
 use native.Mathlib.Nat.{add-zero, zero-add}
 use lib.ListN.{length, take, drop, getD}
@@ -16,7 +16,6 @@ use Rattle.series.proofs.Scanned.{each-length}
 use Rattle.values.specs.declared.value.Quantity.{Quantity}
 use Rattle.values.specs.declared.value.Quantity.the-variants.{Setpoint, Actual, Acceptance, Inner, Floor, Covered}
 use Rattle.settlement.specs.declared.sheet.Terms.{Terms}
-use Rattle.settlement.specs.declared.sheet.Claim.{Claim}
 use Rattle.settlement.specs.Powers.{next}
 use Rattle.settlement.specs.Blank.{kwh, noEnergies}
 use Rattle.settlement.specs.Quarter.{Cut, cut, highest, cutsOf, upperOf, limitsOf, sliceEnergy, lackEnergy, poolEnergy, claimFrom, claimOf, claimsOf, claimAt, claimsAlong}

@@ -1,8 +1,8 @@
 -- The bounds that follow the setpoints of a quarter hour enclose them, and a whole quarter hour of samples has 900 seconds.
 -- Assumes nothing.
-use mathlib.Core.Path.{_≡_, refl, sym, ap, _∙_}
-use mathlib.Core.List.{List, [], _∷_, _++_}
-use Prim.Native.Nat.{ℕ, zero, suc, _+_, _*_, _≤_, _<_}
+use mathlib.Core.Path.{_≡_}
+use mathlib.Core.List.{List, [], _∷_}
+use Prim.Native.Nat.{ℕ, zero, suc, _*_, _≤_, _<_}
 use native.Mathlib.Omega.{arith}
 use lib.IntN.{ℤ, pos}
 use lib.ListN.{length, take, drop, getD}
@@ -20,7 +20,7 @@ use Rattle.settlement.specs.declared.powers.Bounds.{Bounds}
 use Rattle.settlement.specs.Blank.{noBounds}
 use Rattle.settlement.specs.Powers.{samples, ogaAfter, ugaAfter, channelAfter, ogasAlong, ugasAlong, boundsOf}
 use Rattle.settlement.specs.Quarter.{samplesAlong}
-use Rattle.settlement.specs.Room.{Tame, Timely, Whole}
+use Rattle.settlement.specs.Room.{Timely, Whole}
 use Rattle.settlement.proofs.PowerLaws.{outputs-length}
 
 within : (ch : Channel) (ss : List ℤ) → length (ch .ring) ≡ 302 → (i : ℕ) → i < length ss

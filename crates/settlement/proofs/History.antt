@@ -1,6 +1,6 @@
 -- A quarter hour that a channel follows is settled by OGA and UGA of the series of setpoints that the channel stands for.
 -- Assumes nothing.
-use mathlib.Core.Path.{_≡_, refl, sym, ap, _∙_}
+use mathlib.Core.Path.{_≡_, refl, ap}
 use mathlib.Core.List.{List, [], _∷_}
 use Prim.Native.Nat.{ℕ}
 use lib.IntN.{ℤ}
@@ -12,7 +12,7 @@ use Rattle.channel.proofs.Ring.{follows}
 use Rattle.series.specs.Scan.{ran, outputs}
 use Rattle.values.specs.declared.direction.Direction.the-variants.{Positive, Negative}
 use Rattle.settlement.specs.declared.sheet.Terms.{Terms}
-use Rattle.settlement.specs.Powers.{Samples, samples, ogaAfter, ugaAfter, channelAfter, ogasAlong, ugasAlong, seriesAfter, ogasOver, ugasOver, samplesOver}
+use Rattle.settlement.specs.Powers.{ogaAfter, ugaAfter, channelAfter, ogasAlong, ugasAlong, seriesAfter, ogasOver, ugasOver, samplesOver}
 use Rattle.settlement.specs.Quarter.{samplesAlong, sheetOf, quarterOf}
 
 module _ (i : Interval) (lot : ℕ) where

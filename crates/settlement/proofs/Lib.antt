@@ -9,3 +9,5 @@ pub mod Following
 pub mod History
 pub mod Cap
 pub mod Prefix
+pub mod HandedOut
+pub mod Billed

@@ -7,8 +7,7 @@ use lib.ListN.{take}
 use Rattle.series.specs.Scan.{outputs, each}
 use Rattle.values.specs.declared.value.Quantity.{Quantity}
 use Rattle.settlement.specs.declared.sheet.Terms.{Terms}
-use Rattle.settlement.specs.declared.sheet.Claim.{Claim}
-use Rattle.settlement.specs.Quarter.{Cut, cut, highest, cutsOf, upperOf, limitsOf, claimOf, claimsOf}
+use Rattle.settlement.specs.Quarter.{cut, highest, cutsOf, upperOf, limitsOf, claimOf, claimsOf}
 use Rattle.settlement.proofs.Columns.{take-outputs}
 
 abbrev awardIn : Terms → ℕ

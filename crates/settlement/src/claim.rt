@@ -6,12 +6,12 @@ use arithmetic::energy::energy;
 use series::short;
 use series::sliced;
 ghost use mathlib.Core.Path.{_≡_};
-ghost use mathlib.Core.List.{List, _++_};
-ghost use Prim.Native.Nat.{ℕ, _+_, _*_, _-_, _≤_, _<_, _^_};
-ghost use lib.ListN.{length, take, drop};
+ghost use mathlib.Core.List.{_++_};
+ghost use Prim.Native.Nat.{_+_, _*_, _-_, _≤_, _<_, _^_};
+ghost use lib.ListN.{take, drop};
 ghost use Rattle.series.specs.Scan.{each};
 ghost use Rattle.arithmetic.specs.Whole.{leastOf};
-ghost use Rattle.settlement.specs.Quarter.{Cut, cut, limitsOf, cutsOf, sliceEnergy, lackEnergy, claimFrom, claimsAlong};
+ghost use Rattle.settlement.specs.Quarter.{cut, limitsOf, cutsOf, sliceEnergy, lackEnergy, claimFrom, claimsAlong};
 ghost use Rattle.settlement.specs.Blank.{kwh, noLimits, noEnergies, noClaims};
 ghost use Rattle.settlement.specs.Room.{Small};
 

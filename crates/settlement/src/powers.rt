@@ -6,7 +6,7 @@ use values::part::facing;
 use values::value::Quantity;
 use values::value::amount;
 ghost use mathlib.Core.Path.{_≡_};
-ghost use Prim.Native.Nat.{ℕ, _≤_};
+ghost use Prim.Native.Nat.{_≤_};
 ghost use lib.ListN.{length};
 ghost use Rattle.settlement.specs.Powers.{samples, powersOf, boundsOf};
 ghost use Rattle.settlement.specs.Blank.{noPowers, noBounds};

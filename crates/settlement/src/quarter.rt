@@ -14,12 +14,11 @@ use channel::interval::Interval;
 use values::direction::Direction;
 use values::value::Quantity;
 ghost use mathlib.Core.Path.{_≡_};
-ghost use Prim.Native.Nat.{ℕ, _≤_};
+ghost use Prim.Native.Nat.{_≤_};
 ghost use lib.ListN.{length, take};
-ghost use Rattle.channel.specs.Interval.{windowsOf};
 ghost use Rattle.values.specs.declared.value.Quantity.the-variants.{Surplus};
 ghost use Rattle.settlement.specs.Powers.{samples, powersOf};
-ghost use Rattle.settlement.specs.Quarter.{poolEnergy, poolOf, sheetOf, quarterOf};
+ghost use Rattle.settlement.specs.Quarter.{poolOf, sheetOf, quarterOf};
 ghost use Rattle.settlement.specs.Room.{Timely, Whole};
 
 // The two sheets of a quarter hour, and the channel after it.

@@ -2,7 +2,7 @@
 -- Assumes nothing.
 use Rattle.settlement.specs.Blank.{kwh}
 use native.Mathlib.Omega.{arith}
-use mathlib.Core.Path.{_≡_, ap}
+use mathlib.Core.Path.{ap}
 use borrow.Author.Needs.{needs}
 use Rattle.settlement.proofs.claim.less.Statement.{statement}
 use Rattle.settlement.proofs.claim.less.Tie as tie

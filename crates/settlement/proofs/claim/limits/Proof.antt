@@ -2,7 +2,7 @@
 -- Assumes nothing.
 use borrow.Author.Needs.{needs}
 use native.Mathlib.Omega.{arith}
-use Prim.Native.Nat.{_+_, _-_, _*_, _^_, _≤_}
+use Prim.Native.Nat.{_-_, _*_, _^_, _≤_}
 use Rattle.settlement.proofs.Filling.{limits-32}
 use Rattle.settlement.specs.Blank.{noLimits}
 use Rattle.settlement.specs.Quarter.{upperOf}

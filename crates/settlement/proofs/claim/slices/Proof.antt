@@ -2,13 +2,13 @@
 -- Assumes nothing.
 use borrow.Author.Needs.{needs}
 use native.Mathlib.Omega.{arith}
-use Prim.Native.Nat.{_+_, _-_, _≤_}
+use Prim.Native.Nat.{_-_}
 use Rattle.settlement.proofs.Filling.{first-more, first-all, energies-32}
 use Rattle.settlement.specs.Blank.{noEnergies}
-use Rattle.settlement.specs.Quarter.{Cut, cut, highest, sliceEnergy}
+use Rattle.settlement.specs.Quarter.{cut, highest, sliceEnergy}
 use Rattle.series.proofs.Scanned.{Scanned, scanned-none, each-outputs}
 use lib.ListN.{take}
-use mathlib.Core.Path.{sym, _∙_}
+use mathlib.Core.Path.{_∙_}
 use Rattle.settlement.proofs.claim.slices.Statement.{statement}
 use Rattle.settlement.proofs.claim.slices.Tie as tie
 

@@ -3,7 +3,7 @@
 use Rattle.settlement.specs.Blank.{kwh}
 use Rattle.arithmetic.specs.Whole.{leastOf}
 use native.Mathlib.Omega.{arith}
-use mathlib.Core.Path.{_≡_, ap}
+use mathlib.Core.Path.{ap}
 use Rattle.settlement.proofs.claim.smaller.Statement.{statement}
 use Rattle.settlement.proofs.claim.smaller.Tie as tie
 

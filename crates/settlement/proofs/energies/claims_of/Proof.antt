@@ -1,7 +1,6 @@
 -- `settlement::energies::claims_of` meets its contract. The energies quantity by quantity are those contract by contract (Columns).
 -- Assumes nothing.
 use Rattle.settlement.proofs.Columns.{rows}
-use lib.ListN.{length}
 use native.Mathlib.Omega.{arith}
 use Rattle.settlement.specs.Powers.{samples, powersOf}
 use borrow.Author.Needs.{needs}

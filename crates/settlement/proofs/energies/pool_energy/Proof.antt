@@ -3,7 +3,6 @@
 use Rattle.settlement.proofs.Columns.{whole-slice}
 use Rattle.settlement.proofs.PowerLaws.{powers-length, front, front-length, small}
 use lib.ListN.{length}
-use native.Mathlib.Omega.{arith}
 use Rattle.settlement.specs.Powers.{samples, powersOf}
 use borrow.Author.Needs.{needs}
 use Rattle.settlement.proofs.energies.pool_energy.Statement.{statement}

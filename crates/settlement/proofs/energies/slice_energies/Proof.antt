@@ -2,7 +2,6 @@
 -- Assumes nothing.
 use Rattle.settlement.proofs.PowerLaws.{powers-length, front, front-length, small}
 use lib.ListN.{length}
-use native.Mathlib.Omega.{arith}
 use Rattle.settlement.specs.Powers.{samples, powersOf}
 use borrow.Author.Needs.{needs}
 use Rattle.settlement.proofs.energies.slice_energies.Statement.{statement}

@@ -9,7 +9,7 @@ use Rattle.series.proofs.Scanned.{Scanned, scanned-none, scanned-more, scanned-
 use Rattle.series.specs.Sums.{overOf, sumOf}
 use native.Mathlib.Omega.{arith}
 use Prim.Native.Nat.{_-_, _*_, _^_, _≤_}
-use mathlib.Core.Path.{_≡_, sym}
+use mathlib.Core.Path.{_≡_}
 use mir.Syntax.{w64, w32}
 use mir.ValLaws.{toZ-ofZ}
 use borrow.Author.Needs.{needs, sfits-of}

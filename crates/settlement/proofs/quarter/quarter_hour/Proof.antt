@@ -3,7 +3,6 @@
 use Rattle.settlement.proofs.Following.{quarter-of, ogas-front, ugas-front, channel-is, timely}
 use Rattle.settlement.specs.Quarter.{quarterOf}
 use lib.ListN.{length}
-use mathlib.Core.Path.{_≡_}
 use borrow.Author.Needs.{needs}
 use Rattle.settlement.proofs.quarter.quarter_hour.Statement.{statement}
 use Rattle.settlement.proofs.quarter.quarter_hour.Tie as tie
