@@ -11,3 +11,5 @@ pub mod Cap
 pub mod Prefix
 pub mod HandedOut
 pub mod Billed
+pub mod Holding
+pub mod Promises

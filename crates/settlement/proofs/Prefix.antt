@@ -10,7 +10,7 @@ use Rattle.settlement.specs.declared.sheet.Terms.{Terms}
 use Rattle.settlement.specs.Quarter.{cut, highest, cutsOf, upperOf, limitsOf, claimOf, claimsOf}
 use Rattle.settlement.proofs.Columns.{take-outputs}
 
-abbrev awardIn : Terms → ℕ
+abbrev pub awardIn : Terms → ℕ
 awardIn t = t .award
 
 abbrev raised : ℕ → ℕ → ℕ
@@ -22,7 +22,7 @@ unfolding outputs each upperOf
 by-awards low [] = refl
 by-awards low (t ∷ ts) = rw (by-awards (low + t .award * 5400) ts)
 
-take-each : {X Y : Type 0} (f : X → Y) (l : List X) (k : ℕ) → take k (each f l) ≡ each f (take k l)
+pub take-each : {X Y : Type 0} (f : X → Y) (l : List X) (k : ℕ) → take k (each f l) ≡ each f (take k l)
 unfolding each
 take-each f l zero = refl
 take-each f [] (suc k) = refl

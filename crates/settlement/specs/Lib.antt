@@ -4,4 +4,5 @@ pub mod Powers
 pub mod Quarter
 pub mod Room
 pub mod Run
+pub mod Reached
 pub mod Sums

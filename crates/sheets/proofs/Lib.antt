@@ -1,0 +1,5 @@
+pub mod Fields
+pub mod Contracts
+pub mod Printing
+pub mod Only
+pub mod Listing
