@@ -243,7 +243,7 @@ impl Run {
     }
 
     // The contracts of a direction.
-    fn book(self, direction: Direction) -> Book
+    pub fn book(self, direction: Direction) -> Book
         ensures { λ r. ⌜ r ≡ bookOf direction self ⌝ }
     {
         match direction {

@@ -1,0 +1,33 @@
+-- `text::desk::Desk::contract` meets its contract. Assumes nothing.
+use Rattle.text.proofs.Telling.{as-turn, silent, refuses, goes-on}
+use Rattle.text.specs.Desk.{contractTurn}
+use Rattle.settlement.specs.declared.run.Answer.{Answer}
+use mathlib.Core.Path.{ap}
+use borrow.Author.Needs.{needs}
+use Rattle.text.proofs.desk.Desk.contract.Statement.{statement}
+use Rattle.text.proofs.desk.Desk.contract.Tie as tie
+
+contract-requires : tie.Need-contract-requires
+contract-requires c κs = search needs
+
+number-requires : tie.Need-number-requires
+number-requires c κs = search needs
+
+refused-requires : tie.Need-refused-requires
+refused-requires c κs = search needs
+
+same-length : tie.Need-same-length
+same-length c = search needs
+
+returns : tie.Need-returns
+unfolding contractTurn
+returns c = as-turn (refuses _ _ _ (c .before .before .before .before .before .number .ensures) (ap (λ (a : Answer). a .refusal) (c .before .before .before .before .before .before .before .contract .ensures)) (c .before .before .before .before .if1 .taken)) (c .before .before .refused .ensures)
+
+returns-2 : tie.Need-returns-2
+unfolding contractTurn
+returns-2 c = as-turn (goes-on _ _ _ (c .before .number .ensures) (ap (λ (a : Answer). a .refusal) (c .before .before .before .contract .ensures)) (c .if1 .left)) (rw (← c .before .before .before .contract .ensures) (silent _ _ _))
+
+pub contract-spec : {M : Type 1} → statement M
+contract-spec =
+    tie.close
+    (tie.spec contract-requires number-requires refused-requires same-length returns returns-2)

@@ -1,0 +1,55 @@
+-- `text::desk::Desk::end` meets its contract. Assumes nothing.
+use Rattle.text.proofs.Telling.{told, as-turn, refuses, goes-on}
+use Rattle.text.specs.Desk.{endTurn}
+use Rattle.settlement.specs.declared.run.Ended.{Ended}
+use mathlib.Core.Path.{ap}
+use native.Mathlib.Omega.{arith}
+use borrow.Author.Needs.{needs}
+use Rattle.text.proofs.desk.Desk.end.Statement.{statement}
+use Rattle.text.proofs.desk.Desk.end.Tie as tie
+
+end-requires : tie.Need-end-requires
+end-requires c κs = search needs
+
+number-requires : tie.Need-number-requires
+number-requires c κs = search needs
+
+refused-requires : tie.Need-refused-requires
+refused-requires c κs = search needs
+
+same-length : tie.Need-same-length
+same-length c = search needs
+
+returns : tie.Need-returns
+unfolding endTurn
+returns c = as-turn (refuses _ _ _ (c .before .before .before .before .before .number .ensures) (ap (λ (a : Ended). a .refusal) (c .before .before .before .before .before .before .end .ensures)) (c .before .before .before .before .if1 .taken)) (c .before .before .refused .ensures)
+
+print-total-requires : tie.Need-print-total-requires
+print-total-requires c κs = search needs
+
+answer-requires : tie.Need-answer-requires
+answer-requires c κs = search needs
+
+same-length-2 : tie.Need-same-length-2
+same-length-2 c = search needs
+
+returns-2 : tie.Need-returns-2
+unfolding endTurn
+returns-2 c =
+    let p = c .before .before .before .print-total .ensures in
+    as-turn (goes-on _ _ _ (c .before .before .before .before .before .before .before .number .ensures) (ap (λ (a : Ended). a .refusal) (c .before .before .before .before .before .before .before .before .end .ensures)) (c .before .before .before .before .before .before .if1 .left))
+    (rw (← c .before .before .before .before .before .before .before .before .end .ensures) (told (c .answer .ensures) (p .0) (p .1 .0) (omega (arith, p .1 .1))))
+
+pub end-spec : {M : Type 1} → statement M
+end-spec =
+    tie.close
+    (tie.spec
+    end-requires
+    number-requires
+    refused-requires
+    same-length
+    returns
+    print-total-requires
+    answer-requires
+    same-length-2
+    returns-2)

@@ -1,0 +1,99 @@
+-- `text::desk::Desk::first` meets its contract. Assumes nothing.
+use Rattle.text.specs.Desk.{firstTurn}
+use borrow.Author.Needs.{needs}
+use Rattle.text.proofs.desk.Desk.first.Statement.{statement}
+use Rattle.text.proofs.desk.Desk.first.Tie as tie
+
+read-requires : tie.Need-read-requires
+read-requires c κs = search needs
+
+enum-known-said : tie.Need-enum-known-said
+enum-known-said c = search needs
+
+open-requires : tie.Need-open-requires
+open-requires c κs = search needs
+
+enum-told : tie.Need-enum-told
+enum-told c = search needs
+
+refused-requires : tie.Need-refused-requires
+refused-requires c κs = search needs
+
+enum-told-2 : tie.Need-enum-told-2
+enum-told-2 c = search needs
+
+refused-requires-2 : tie.Need-refused-requires-2
+refused-requires-2 c κs = search needs
+
+enum-told-3 : tie.Need-enum-told-3
+enum-told-3 c = search needs
+
+refused-requires-3 : tie.Need-refused-requires-3
+refused-requires-3 c κs = search needs
+
+enum-told-4 : tie.Need-enum-told-4
+enum-told-4 c = search needs
+
+refused-requires-4 : tie.Need-refused-requires-4
+refused-requires-4 c κs = search needs
+
+same-length : tie.Need-same-length
+same-length c = search needs
+
+returns : tie.Need-returns
+unfolding firstTurn
+returns c = rw (← c .before .before .before .before .before .before .before .read .ensures, c .before .before .before .before .before .said .given .1) (c .before .before .«open» .ensures)
+
+same-length-2 : tie.Need-same-length-2
+same-length-2 c = search needs
+
+returns-2 : tie.Need-returns-2
+unfolding firstTurn
+returns-2 c = rw (← c .before .before .before .before .before .before .read .ensures, c .before .before .before .before .enum-told .given .1) (c .before .before .refused .ensures)
+
+same-length-3 : tie.Need-same-length-3
+same-length-3 c = search needs
+
+returns-3 : tie.Need-returns-3
+unfolding firstTurn
+returns-3 c = rw (← c .before .before .before .before .before .before .read .ensures, c .before .before .before .before .enum-told2 .given .1) (c .before .before .refused2 .ensures)
+
+same-length-4 : tie.Need-same-length-4
+same-length-4 c = search needs
+
+returns-4 : tie.Need-returns-4
+unfolding firstTurn
+returns-4 c = rw (← c .before .before .before .before .before .before .read .ensures, c .before .before .before .before .enum-told3 .given .1) (c .before .before .refused3 .ensures)
+
+same-length-5 : tie.Need-same-length-5
+same-length-5 c = search needs
+
+returns-5 : tie.Need-returns-5
+unfolding firstTurn
+returns-5 c = rw (← c .before .before .before .before .before .before .read .ensures, c .before .before .before .before .enum-told4 .given .1) (c .before .before .refused4 .ensures)
+
+pub first-spec : {M : Type 1} → statement M
+first-spec =
+    tie.close
+    (tie.spec
+    read-requires
+    enum-known-said
+    open-requires
+    enum-told
+    refused-requires
+    enum-told-2
+    refused-requires-2
+    enum-told-3
+    refused-requires-3
+    enum-told-4
+    refused-requires-4
+    same-length
+    returns
+    same-length-2
+    returns-2
+    same-length-3
+    returns-3
+    same-length-4
+    returns-4
+    same-length-5
+    returns-5)

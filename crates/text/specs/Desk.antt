@@ -1,0 +1,151 @@
+-- What each line makes of the desk, and what is printed for it (01, 'Text' and 'Refusal numbers').
+use Prim.Native.Nat.{ℕ, _+_, _%_, _^_, _≤_}
+use mathlib.Core.Path.{_≡_}
+use mathlib.Core.Bool.{Bool, true, false, cond}
+use mathlib.Core.List.{List, []}
+use lib.ListN.{length}
+use lib.IntN.{pos}
+use Rattle.refusals.specs.declared.Refusal.{Refusal}
+use Rattle.refusals.specs.declared.Refusal.the-variants.{WrongMoment, BadLine, NoEnd}
+use Rattle.refusals.specs.Refusals.{accepted}
+use Rattle.settlement.specs.declared.input.Contract.{Contract}
+use Rattle.settlement.specs.declared.input.Header.{Header}
+use Rattle.settlement.specs.declared.input.Sample.{Sample}
+use Rattle.settlement.specs.declared.run.Run.{Run}
+use Rattle.settlement.specs.declared.run.Taken.{Taken}
+use Rattle.settlement.specs.declared.run.Heading.{Heading}
+use Rattle.settlement.specs.declared.run.Ended.{Ended}
+use Rattle.settlement.specs.Run.{openedOf, contractedOf, sampledOf, takenOf, endedOf, headingOf}
+use Rattle.sheets.specs.Sheet.{headText, quarterText, totalText, refusalText}
+use Rattle.sheets.specs.Buffer.{printAnswer, printInto}
+use Rattle.sheets.specs.declared.Printed.{Printed}
+use Rattle.sheets.specs.declared.Printed.the-variants.{Length, TooShort}
+use Rattle.text.specs.Line.{lineOf, identifierOf}
+use Rattle.text.specs.declared.line.Line.{Line}
+use Rattle.text.specs.declared.line.Line.the-variants as L
+use Rattle.text.specs.declared.desk.Stage.{Stage}
+use Rattle.text.specs.declared.desk.Stage.the-variants.{Empty, Open, Closed}
+use Rattle.text.specs.declared.desk.Desk.{Desk}
+use Rattle.text.specs.declared.desk.Told.{Told}
+
+-- the desk after a line, and the text that is printed for it
+pub record Turn : Type 0 where
+  pub desk : Desk
+  pub text : List ℕ
+
+abbrev pub deskAt : Stage → Run → Desk
+deskAt stage run = record { run = run; stage = stage }
+
+-- before the first line: what stands where an opening was refused
+abbrev pub noHeader : Header
+noHeader = record { date = record { year = 0; month = 0; day = 0 }; interval = pos 0; lot = pos 0; quarters = pos 0 }
+
+unfoldable pub emptyDesk : Desk
+emptyDesk = deskAt Empty (openedOf noHeader .run)
+
+-- nothing is printed
+abbrev pub quiet : Desk → Turn
+quiet desk = record { desk = desk; text = [] }
+
+-- "on the first refusal the program prints R|line number|refusal and stops"
+unfoldable pub refusedTurn : Desk → ℕ → Refusal → Turn
+refusedTurn desk number refusal = record { desk = deskAt Closed (desk .run); text = refusalText number refusal }
+
+-- what a call makes of a line: its refusal, or what follows
+abbrev pub unless : Desk → ℕ → Refusal → Turn → Turn
+unless desk number refusal turn = cond (accepted refusal) turn (refusedTurn desk number refusal)
+
+-- V, "printed once D is accepted"
+abbrev pub headOf : Heading → List ℕ
+headOf heading = headText (heading .date) (heading .interval) (heading .lot)
+
+unfoldable pub openTurn : Desk → ℕ → Header → Turn
+openTurn desk number header =
+    unless desk number (openedOf header .refusal)
+    (record { desk = deskAt Open (openedOf header .run); text = headOf (headingOf (openedOf header .run)) })
+
+unfoldable pub contractTurn : Desk → ℕ → Contract → List ℕ → Turn
+contractTurn desk number contract identifier =
+    unless desk number (contractedOf (desk .run) contract identifier .refusal)
+    (quiet (deskAt Open (contractedOf (desk .run) contract identifier .run)))
+
+-- Q and K, "printed when the last sample is in": with the contracts that the run had, and what was taken from it
+unfoldable pub takenText : Run → Taken → List ℕ
+takenText run taken =
+    quarterText (taken .quarter) (run .positive .contracts) (taken .positive) (run .negative .contracts) (taken .negative)
+
+unfoldable pub quarterTurn : Run → Turn
+quarterTurn run =
+    cond (accepted (takenOf run .refusal))
+    (record { desk = deskAt Open (takenOf run .run); text = takenText run (takenOf run) })
+    (quiet (deskAt Open run))
+
+unfoldable pub sampleTurn : Desk → ℕ → Sample → Turn
+sampleTurn desk number sample =
+    unless desk number (sampledOf (desk .run) (sample .setpoint) (sample .actual) .refusal)
+    (quarterTurn (sampledOf (desk .run) (sample .setpoint) (sample .actual) .run))
+
+-- T
+abbrev pub totalOf : Ended → List ℕ
+totalOf ended = totalText (ended .quarters) (ended .fees) (ended .penalties)
+
+unfoldable pub endTurn : Desk → ℕ → Turn
+endTurn desk number =
+    unless desk number (endedOf (desk .run) .refusal)
+    (record { desk = deskAt Closed (endedOf (desk .run) .run); text = totalOf (endedOf (desk .run)) })
+
+-- "a malformed line is 14 and nothing further is looked at"; before the header, anything else is 1
+unfoldable pub firstTurn : Desk → ℕ → Line → Turn
+firstTurn desk number (L.Header header) = openTurn desk number header
+firstTurn desk number (L.Contract contract) = refusedTurn desk number WrongMoment
+firstTurn desk number (L.Sample sample) = refusedTurn desk number WrongMoment
+firstTurn desk number L.End = refusedTurn desk number WrongMoment
+firstTurn desk number L.Malformed = refusedTurn desk number BadLine
+
+-- after it, a header is 1
+unfoldable pub nextTurn : Desk → ℕ → List ℕ → Line → Turn
+nextTurn desk number line (L.Header header) = refusedTurn desk number WrongMoment
+nextTurn desk number line (L.Contract contract) = contractTurn desk number contract (identifierOf line)
+nextTurn desk number line (L.Sample sample) = sampleTurn desk number sample
+nextTurn desk number line L.End = endTurn desk number
+nextTurn desk number line L.Malformed = refusedTurn desk number BadLine
+
+-- "after E nothing is read", and after a refusal
+abbrev pub turnAt : Stage → Desk → ℕ → List ℕ → Turn
+turnAt Empty desk number line = firstTurn desk number (lineOf line)
+turnAt Open desk number line = nextTurn desk number line (lineOf line)
+turnAt Closed desk number line = quiet desk
+
+-- one complete line, with its number
+unfoldable pub lineTurn : Desk → ℕ → List ℕ → Turn
+lineTurn desk number line = turnAt (desk .stage) desk number line
+
+-- the input ended after so many complete lines: 15 "is the number of complete lines plus 1"
+-- whether the end or a refusal was printed
+abbrev pub closedAt : Stage → Bool
+closedAt Empty = false
+closedAt Open = false
+closedAt Closed = true
+
+abbrev pub finishAt : Stage → Desk → ℕ → Turn
+finishAt Empty desk number = refusedTurn desk number NoEnd
+finishAt Open desk number = refusedTurn desk number NoEnd
+finishAt Closed desk number = quiet desk
+
+unfoldable pub finishTurn : Desk → ℕ → Turn
+finishTurn desk count = finishAt (desk .stage) desk ((count + 1) % 2 ^ 64)
+
+-- what is handed back: where the buffer is too short for the text, the desk that came in
+abbrev pub answerOf : Desk → Desk → Printed → Told
+answerOf before after (Length n) = record { desk = after; printed = Length n }
+answerOf before after TooShort = record { desk = before; printed = TooShort }
+
+-- a call prints a turn: its answer, and the bytes of the buffer
+pub record Prints (out : List ℕ) (before : Desk) (turn : Turn) (r : Told) (out′ : List ℕ) : Type 0 where
+  pub answer : r ≡ answerOf before (turn .desk) (printAnswer out (turn .text))
+  pub bytes : out′ ≡ printInto out (turn .text)
+
+-- and a buffer of 16,384 bytes is always long enough
+pub record Tells (out : List ℕ) (before : Desk) (turn : Turn) (r : Told) (out′ : List ℕ) : Type 0 where
+  pub prints : Prints out before turn r out′
+  pub room : length (turn .text) ≤ 16384

@@ -1,0 +1,294 @@
+//! A sound input: its header, contracts and samples, and how they are written.
+
+use crate::curves;
+use crate::random::Random;
+
+pub const LARGEST_POWER: i64 = 2_000_000;
+pub const LARGEST_PRICE: i64 = 9_999_999;
+const IDENTIFIER_BYTES: &[u8] = b"ABCDEFGHIJKLMNOPQRSTUVWXYZabcdefghijklmnopqrstuvwxyz0123456789-";
+
+#[derive(Clone)]
+pub struct Header {
+    pub date: Vec<u8>,
+    pub interval: i64,
+    pub lot: Vec<u8>,
+    pub quarter_hours: i64,
+}
+
+#[derive(Clone)]
+pub struct Contract {
+    pub direction: u8,
+    pub identifier: Vec<u8>,
+    pub award: i64,
+    pub price: i64,
+}
+
+pub struct Plan {
+    pub header: Header,
+    pub contracts: Vec<Contract>,
+    /// Setpoint and actual.
+    pub samples: Vec<(i64, i64)>,
+}
+
+impl Plan {
+    pub fn random(random: &mut Random) -> Plan {
+        let header = header(random);
+        let samples_per_quarter_hour = 900 / header.interval;
+        let count = (header.quarter_hours * samples_per_quarter_hour) as usize;
+        // Of the size of the contracts' awards, so that slicing matters.
+        let size = random.pick(&[2, 3, 10, 100, 1_000, 5_000, 20_000, 100_000, LARGEST_POWER]);
+        if random.once_in(5) {
+            let (contracts, samples) = tolerance_fan(random, count);
+            return Plan {
+                header,
+                contracts,
+                samples,
+            };
+        }
+        let mut contracts = list(random, b'P', size);
+        contracts.extend(list(random, b'N', size));
+        mix_directions(random, &mut contracts);
+        make_identifiers_differ(random, &mut contracts);
+        let samples = curves::random(random, size, count);
+        Plan {
+            header,
+            contracts,
+            samples,
+        }
+    }
+
+    /// The lines without their LF.
+    pub fn lines(&self) -> Vec<Vec<u8>> {
+        let mut lines = vec![header_line(&self.header)];
+        lines.extend(self.contracts.iter().map(contract_line));
+        lines.extend(
+            self.samples
+                .iter()
+                .map(|(setpoint, actual)| format!("S\t{setpoint}\t{actual}").into_bytes()),
+        );
+        lines.push(b"E".to_vec());
+        lines
+    }
+}
+
+pub fn header_line(header: &Header) -> Vec<u8> {
+    let mut line = b"D\t".to_vec();
+    line.extend(&header.date);
+    line.extend(format!("\t{}\t", header.interval).bytes());
+    line.extend(&header.lot);
+    line.extend(format!("\t{}", header.quarter_hours).bytes());
+    line
+}
+
+pub fn contract_line(contract: &Contract) -> Vec<u8> {
+    let mut line = vec![b'C', b'\t', contract.direction, b'\t'];
+    line.extend(&contract.identifier);
+    line.extend(format!("\t{}\t{}", contract.award, contract.price).bytes());
+    line
+}
+
+fn header(random: &mut Random) -> Header {
+    Header {
+        date: date(random),
+        interval: random.pick(&[1, 3, 4, 4]),
+        lot: match random.below(8) {
+            0 => b"1".to_vec(),
+            1 => b"1000000".to_vec(),
+            2 => random
+                .between(1, LARGEST_POWER / 2)
+                .to_string()
+                .into_bytes(),
+            3 | 4 => random.between(1, 20_000).to_string().into_bytes(),
+            _ => b"-".to_vec(),
+        },
+        quarter_hours: match random.below(300) {
+            0 => 100,
+            1 => random.between(11, 99),
+            2..=9 => random.between(4, 10),
+            10..=34 => 3,
+            35..=79 => 2,
+            _ => 1,
+        },
+    }
+}
+
+fn date(random: &mut Random) -> Vec<u8> {
+    match random.below(8) {
+        0 => b"2000-01-01".to_vec(),
+        1 => b"2099-12-31".to_vec(),
+        2 => b"2000-02-29".to_vec(),
+        3 => format!("20{:02}-02-29", 4 * random.between(0, 24)).into_bytes(),
+        _ => {
+            let (year, month, day) = (
+                random.between(2000, 2099),
+                random.between(1, 12),
+                random.between(1, 28),
+            );
+            format!("{year}-{month:02}-{day:02}").into_bytes()
+        }
+    }
+}
+
+pub fn identifier(random: &mut Random) -> Vec<u8> {
+    let length = match random.below(4) {
+        0 => 16,
+        1 => random.between(1, 2),
+        _ => random.between(1, 16),
+    };
+    (0..length).map(|_| random.pick(IDENTIFIER_BYTES)).collect()
+}
+
+/// The contracts of one direction. Their awards together are within the limit
+/// and their prices in order.
+fn list(random: &mut Random, direction: u8, size: i64) -> Vec<Contract> {
+    let count = match random.below(8) {
+        0 => 0,
+        1 => 32,
+        2 | 3 => random.between(5, 32),
+        _ => random.between(1, 4),
+    };
+    let mut left = LARGEST_POWER;
+    let style = random.below(5);
+    let mut awards: Vec<i64> = (0..count)
+        .map(|number| {
+            let wanted = match style {
+                0 => size / count.max(1) + 1,
+                1 => random.between(1, 5),
+                2 => random.between(1, LARGEST_POWER / count.max(1)),
+                3 => random.between(1, size),
+                _ => random.between(1, 2 * size / count.max(1) + 1),
+            };
+            let award = wanted.min(left - (count - number - 1)).max(1);
+            left -= award;
+            award
+        })
+        .collect();
+    // Now and then the sum is the largest that is allowed.
+    if random.once_in(6) {
+        if let Some(award) = awards.last_mut() {
+            *award += left;
+        }
+    }
+    let mut prices: Vec<i64> = prices(random, awards.len());
+    prices.sort_unstable();
+    awards
+        .into_iter()
+        .zip(prices)
+        .map(|(award, price)| Contract {
+            direction,
+            identifier: identifier(random),
+            award,
+            price,
+        })
+        .collect()
+}
+
+fn prices(random: &mut Random, count: usize) -> Vec<i64> {
+    let style = random.below(6);
+    let equal = random.between(-LARGEST_PRICE, LARGEST_PRICE);
+    (0..count)
+        .map(|_| match style {
+            0 => equal,
+            1 => 500 * random.between(-20, 20),
+            2 => 125 * random.between(-80, 80),
+            3 => random.pick(&[-LARGEST_PRICE, LARGEST_PRICE]),
+            4 => random.between(-3, 3),
+            _ => random.between(-LARGEST_PRICE, LARGEST_PRICE),
+        })
+        .collect()
+}
+
+/// Positive and negative contracts may come in any order.
+fn mix_directions(random: &mut Random, contracts: &mut [Contract]) {
+    match random.below(3) {
+        0 => {}
+        1 => contracts.sort_by_key(|contract| contract.direction),
+        _ => {
+            for place in 1..contracts.len() {
+                let mut earlier = place;
+                // Within a direction the order has to stay.
+                while earlier > 0
+                    && contracts[earlier - 1].direction != contracts[earlier].direction
+                    && !random.once_in(4)
+                {
+                    contracts.swap(earlier - 1, earlier);
+                    earlier -= 1;
+                }
+            }
+        }
+    }
+}
+
+fn make_identifiers_differ(random: &mut Random, contracts: &mut [Contract]) {
+    for place in 0..contracts.len() {
+        while contracts[..place]
+            .iter()
+            .any(|earlier| earlier.identifier == contracts[place].identifier)
+        {
+            contracts[place].identifier = identifier(random);
+        }
+    }
+}
+
+/// A setpoint whose tolerance reaches over many small contracts, delivered
+/// partly below and partly above: gaps of several contracts, often equal, and a
+/// surplus that is shared among them.
+fn tolerance_fan(random: &mut Random, count: usize) -> (Vec<Contract>, Vec<(i64, i64)>) {
+    let direction = random.pick(b"PN");
+    let sign = if direction == b'P' { 1 } else { -1 };
+    let mut level = random.pick(&[2_000, 10_000, 40_000, 100_000]) + random.between(0, 200);
+    // The small contracts begin at the tolerance, or lie across its bound. At
+    // the edge the first contract ends half a kWh above that bound, both round
+    // to the same kWh, and it under-delivers: there its gap is smaller than its
+    // shortfall, which shows if there are no large gaps beside it.
+    let edge = random.once_in(2);
+    let small = random.between(0, if edge { 1 } else { 31 });
+    let base = if edge {
+        while level * 19 / 20 % 4 != 2 {
+            level += 1;
+        }
+        level * 19 / 20 + 3
+    } else {
+        level * random.pick(&[16, 18, 19]) / 20 + random.between(-3, 3)
+    };
+    let equal = random.once_in(2);
+    let price = random.between(-2_000, 2_000);
+    let rising = random.pick(&[0, 1, 250]);
+    let mut contracts = vec![Contract {
+        direction,
+        identifier: b"base".to_vec(),
+        award: base,
+        price,
+    }];
+    for number in 0..small {
+        let even = (level - base) / small + 1;
+        contracts.push(Contract {
+            direction,
+            identifier: format!("fan-{number}").into_bytes(),
+            award: if equal {
+                even
+            } else {
+                random.between(1, 2 * even)
+            },
+            price: price + rising * (number + 1),
+        });
+    }
+    let below = match random.below(4) {
+        _ if edge => random.between(level * 17 / 20, level * 19 / 20),
+        0 => random.between(0, level),
+        _ => random.between(level * 18 / 20, level),
+    };
+    let above = random.between(level, level * 22 / 20);
+    let part_below = random.between(if edge { 80 } else { 1 }, 99) as usize;
+    let samples = (0..count)
+        .map(|place| {
+            let actual = if place % 100 < part_below {
+                below
+            } else {
+                above
+            };
+            (sign * level, sign * actual)
+        })
+        .collect();
+    (contracts, samples)
+}
