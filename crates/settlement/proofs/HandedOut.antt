@@ -32,14 +32,14 @@ use Rattle.settlement.proofs.Shared.{gapsIn, gaps-length, gap-at, share
 
 -- ---- what stands at a place of the lines
 
-line-in : (shares : List Kwh) (ts : List Terms) (rest : List Line) (cs : List Claim) (i k : ℕ) → k < length cs
+pub line-in : (shares : List Kwh) (ts : List Terms) (rest : List Line) (cs : List Claim) (i k : ℕ) → k < length cs
     → getD (outputs next (lineAt shares ts) i cs ++ rest) k noLine ≡ lineAt shares ts (i + k) (getD cs k noClaim)
 unfolding outputs
 line-in shares ts rest [] i k h = absurd (omega arith)
 line-in shares ts rest (c ∷ cs) i zero h = rw (add-zero i)
 line-in shares ts rest (c ∷ cs) i (suc k) h = let e : i + 1 + k ≡ i + suc k = omega arith in line-in shares ts rest cs (i + 1) k (omega arith) ∙ rw e
 
-line-past : (shares : List Kwh) (ts : List Terms) (n : ℕ) (cs : List Claim) (i k : ℕ) → length cs ≤ k → getD (outputs next (lineAt shares ts) i cs ++ drop n noLines) k noLine ≡ noLine
+pub line-past : (shares : List Kwh) (ts : List Terms) (n : ℕ) (cs : List Claim) (i k : ℕ) → length cs ≤ k → getD (outputs next (lineAt shares ts) i cs ++ drop n noLines) k noLine ≡ noLine
 unfolding outputs noLines
 line-past shares ts n [] i k h = getD-drop n (replicate 32 noLine) k noLine ∙ blank-at noLine 32 (n + k)
 line-past shares ts n (c ∷ cs) i zero h = absurd (omega arith)
@@ -88,7 +88,7 @@ module _ (seconds : ℕ) (p : Quantity → List ℕ) (ts : List Terms) (few : le
   pub claims-sized : length (claimsIn seconds p ts) ≡ 32
   claims-sized = rw (length-append, length-drop, claims-32, each-length (claimOf seconds p) (cutsOf (limitsOf ts)), cuts-count) (omega arith)
 
-  front-count : length (take (length ts) (claimsIn seconds p ts)) ≡ length ts
+  pub front-count : length (take (length ts) (claimsIn seconds p ts)) ≡ length ts
   front-count = length-take-le (length ts) (claimsIn seconds p ts) (omega (arith, claims-sized))
 
   pub lines-sized : length (linesOf seconds p ts) ≡ 32

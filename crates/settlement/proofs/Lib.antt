@@ -13,3 +13,4 @@ pub mod HandedOut
 pub mod Billed
 pub mod Holding
 pub mod Promises
+pub mod Totals
