@@ -5,15 +5,15 @@ use arithmetic::energy::Kwh;
 use arithmetic::money::Cents;
 use arithmetic::whole::positive_part;
 use libc::STDOUT_FILENO;
+use quarter::sheet::Line;
+use quarter::sheet::Pool;
+use quarter::sheet::Sheet;
 use refusals::Refusal;
 use settlement::input::Contract;
 use settlement::input::Header;
 use settlement::input::Sample;
 use settlement::run::Answer;
 use settlement::run::Run;
-use settlement::sheet::Line;
-use settlement::sheet::Pool;
-use settlement::sheet::Sheet;
 use values::direction::Direction;
 
 fn write(text: &[u8]) {

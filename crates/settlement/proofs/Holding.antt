@@ -30,19 +30,19 @@ use Rattle.contracts.proofs.Accepted.{Accepted, passed, accepted as accepted-by
 use Rattle.settlement.specs.declared.input.Header.{Header}
 use Rattle.settlement.specs.declared.input.Contract.{Contract}
 use Rattle.settlement.specs.declared.run.Run.{Run}
-use Rattle.settlement.specs.declared.quarter.Settled.{Settled}
-use Rattle.settlement.specs.declared.sheet.Line.{Line}
-use Rattle.settlement.specs.declared.sheet.Terms.{Terms}
+use Rattle.quarter.specs.declared.hour.Settled.{Settled}
+use Rattle.quarter.specs.declared.sheet.Line.{Line}
+use Rattle.quarter.specs.declared.sheet.Terms.{Terms}
 use Rattle.settlement.specs.declared.sums.Sums.{Sums}
 use Rattle.settlement.specs.Calls.{unbegun, powerInRange, sampleRefusal, takeRefusal}
-use Rattle.settlement.specs.Powers.{samplesOver, seriesAfter}
-use Rattle.settlement.specs.Quarter.{quarterOf, sheetOf}
+use Rattle.quarter.specs.Powers.{samplesOver, seriesAfter}
+use Rattle.quarter.specs.Quarter.{quarterOf, sheetOf, samplesOf, termsOf, heldOf, termsIn, quarterHeld}
 use Rattle.settlement.specs.Sums.{summedOf, withLine}
-use Rattle.settlement.specs.Run.{freshRun, runOf, samplesOf, withSample, sampleGround, bookOf, withBook, contractGround, withContractIn, termsOf, heldOf, termsIn, quarterIn, sumsAfter, settledOf, takeGround}
+use Rattle.settlement.specs.Run.{freshRun, runOf, withSample, sampleGround, bookOf, withBook, contractGround, withContractIn, quarterIn, sumsAfter, settledOf, takeGround}
 use Rattle.settlement.specs.Reached.{Given, intervalIn, lotIn, awardsIn, headed, withAward, sampledBy, sheetFor, takenBy, Reached}
-use Rattle.settlement.proofs.Quarters.{samples-few}
-use Rattle.settlement.proofs.Prefix.{take-each}
-use Rattle.settlement.proofs.History.{channel-history, positive-history, negative-history}
+use Rattle.quarter.proofs.Quarters.{samples-few}
+use Rattle.quarter.proofs.Prefix.{take-each}
+use Rattle.quarter.proofs.History.{channel-history, positive-history, negative-history}
 
 -- the sums of nothing
 abbrev none : Sums
@@ -172,7 +172,7 @@ module _ (g : Given) (run : Run) (h : Holds g run) (e : takeGround run ≡ None)
 
   -- the quarter hour at hand, by what was given
   quarter-is : quarterIn run ≡ quarterOf (run .channel) (intervalIn g) (g .setpoints) (g .actuals) (each termsOf (g .positives)) (each termsOf (g .negatives))
-  unfolding quarterIn
+  unfolding quarterIn quarterHeld
   quarter-is =
       rw (full, h .setpoints, h .actuals, terms-listed (run .positive) (h .positive), terms-listed (run .negative) (h .negative), h .positives, h .negatives)
       (ap (λ (i : Interval). quarterOf (run .channel) i (g .setpoints) (g .actuals) (each termsOf (g .positives)) (each termsOf (g .negatives))) (h .channel .interval))
@@ -188,7 +188,7 @@ module _ (g : Given) (run : Run) (h : Holds g run) (e : takeGround run ≡ None)
       ∙ negative-history (intervalIn g) (lotIn g) (run .channel) (g .earlier) (g .setpoints) (g .actuals) (each termsOf (g .positives)) (each termsOf (g .negatives)) (h .channel)
 
   channel-is : Represents (intervalIn g) (lotIn g) (quarterIn run .channel) (seriesAfter (g .earlier) (g .setpoints))
-  unfolding quarterIn quarterOf
+  unfolding quarterIn quarterHeld quarterOf
   channel-is = rw (full, h .setpoints) (channel-history (intervalIn g) (lotIn g) (run .channel) (g .earlier) (g .setpoints) (h .channel))
 
 summed-more : (sums : Sums) (a b : List Line) → summedOf sums (a ++ b) ≡ summedOf (summedOf sums a) b

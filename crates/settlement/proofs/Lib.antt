@@ -1,16 +1,4 @@
--- What the proofs share.
-pub mod Quarters
-pub mod Filling
-pub mod PowerLaws
-pub mod Columns
-pub mod Adding
-pub mod Shared
-pub mod Following
-pub mod History
-pub mod Cap
-pub mod Prefix
-pub mod HandedOut
-pub mod Billed
+-- What the calls promise over whole runs.
 pub mod Holding
 pub mod Promises
 pub mod Totals

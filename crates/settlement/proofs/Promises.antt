@@ -26,19 +26,19 @@ use Rattle.settlement.specs.declared.input.Contract.{Contract}
 use Rattle.settlement.specs.declared.run.Run.{Run}
 use Rattle.settlement.specs.declared.run.Answer.{Answer}
 use Rattle.settlement.specs.declared.run.Taken.{Taken}
-use Rattle.settlement.specs.declared.sheet.Sheet.{Sheet}
-use Rattle.settlement.specs.declared.sheet.Claim.{Claim}
-use Rattle.settlement.specs.declared.sheet.Terms.{Terms}
+use Rattle.quarter.specs.declared.sheet.Sheet.{Sheet}
+use Rattle.quarter.specs.declared.sheet.Claim.{Claim}
+use Rattle.quarter.specs.declared.sheet.Terms.{Terms}
 use Rattle.settlement.specs.declared.sums.Sums.{Sums}
-use Rattle.settlement.specs.Powers.{powersOf, samplesOver}
-use Rattle.settlement.specs.Quarter.{claimsOf, claimsIn, sheetOf, shareIn}
-use Rattle.settlement.specs.Blank.{noClaim}
+use Rattle.quarter.specs.Powers.{powersOf, samplesOver}
+use Rattle.quarter.specs.Quarter.{claimsOf, claimsIn, sheetOf, shareIn, termsOf, quarterHeld}
+use Rattle.quarter.specs.Blank.{noClaim}
 use Rattle.settlement.specs.Sums.{summedOf}
-use Rattle.settlement.specs.Run.{answerOf, takeGround, takenOf, quarterIn, termsOf}
+use Rattle.settlement.specs.Run.{answerOf, takeGround, takenOf, quarterIn}
 use Rattle.settlement.specs.Reached.{Given, intervalIn, lotIn, awardsIn, sheetFor, claimsFor, Reached}
 use Rattle.settlement.proofs.Holding.{Holds, holds, positive-is, negative-is}
-use Rattle.settlement.proofs.HandedOut.{sheet-fair, gapsOf}
-use Rattle.settlement.proofs.Prefix.{awardIn, take-each, claims-prefix}
+use Rattle.quarter.proofs.HandedOut.{sheet-fair, gapsOf}
+use Rattle.quarter.proofs.Prefix.{awardIn, take-each, claims-prefix}
 
 -- Demand 1: a refused call hands back the run that came in.
 pub refused-same : (refusal : Refusal) (next run : Run) → accepted refusal ≡ false → answerOf refusal next run .run ≡ run

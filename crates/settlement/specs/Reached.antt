@@ -15,13 +15,13 @@ use Rattle.settlement.specs.declared.input.Contract.{Contract}
 use Rattle.settlement.specs.declared.run.Run.{Run}
 use Rattle.channel.specs.Interval.{windowsOf}
 use Rattle.series.specs.Scan.{each}
-use Rattle.settlement.specs.declared.sheet.Claim.{Claim}
-use Rattle.settlement.specs.declared.sheet.Line.{Line}
-use Rattle.settlement.specs.declared.sheet.Sheet.{Sheet}
-use Rattle.settlement.specs.Powers.{seriesAfter, samplesOver, powersOf}
-use Rattle.settlement.specs.Quarter.{sheetOf, claimsOf}
+use Rattle.quarter.specs.declared.sheet.Claim.{Claim}
+use Rattle.quarter.specs.declared.sheet.Line.{Line}
+use Rattle.quarter.specs.declared.sheet.Sheet.{Sheet}
+use Rattle.quarter.specs.Powers.{seriesAfter, samplesOver, powersOf}
+use Rattle.quarter.specs.Quarter.{sheetOf, claimsOf, termsOf}
 use Rattle.settlement.specs.Calls.{intervalOf, openRefusal}
-use Rattle.settlement.specs.Run.{termsOf, runOf, contractGround, withContractIn, sampleGround, withSample, takeGround, quarterIn, settledOf}
+use Rattle.settlement.specs.Run.{runOf, contractGround, withContractIn, sampleGround, withSample, takeGround, quarterIn, settledOf}
 
 -- what a run was given: the header; the contracts of each direction, cheapest first; the setpoints of the quarter hours that were taken, newest
 -- first; the samples of the quarter hour at hand, oldest first; and the contracts' lines of what was taken

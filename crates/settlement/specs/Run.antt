@@ -3,29 +3,23 @@ use Prim.Native.Nat.{ℕ, _+_}
 use mathlib.Core.Bool.{Bool, true, false, cond, not}
 use mathlib.Core.List.{List}
 use lib.IntN.{ℤ, pos}
-use lib.ListN.{set, take, replicate}
+use lib.ListN.{set, replicate}
 use Rattle.arithmetic.specs.Whole.{up, leastOf}
 use Rattle.arithmetic.specs.declared.date.Date.{Date}
 use Rattle.refusals.specs.declared.Refusal.{Refusal}
 use Rattle.refusals.specs.Refusals.{accepted}
-use Rattle.channel.specs.declared.Channel.{Channel}
 use Rattle.channel.specs.declared.interval.Interval.{Interval}
 use Rattle.channel.specs.declared.interval.Interval.the-variants.{One}
-use Rattle.channel.specs.Interval.{windowsOf}
 use Rattle.channel.specs.State.{newOf}
 use Rattle.refusals.specs.declared.Refusal.the-variants.{WrongMoment}
 use Rattle.values.specs.declared.direction.Direction.{Direction}
 use Rattle.values.specs.declared.direction.Direction.the-variants.{Positive, Negative}
 use Rattle.values.specs.Part.{mirrorOf}
-use Rattle.contracts.specs.declared.book.Awarded.{Awarded}
 use Rattle.contracts.specs.declared.book.Book.{Book}
-use Rattle.series.specs.Scan.{each}
-use Rattle.settlement.specs.Blank.{kwh, noLines}
-use Rattle.settlement.specs.Quarter.{quarterOf}
+use Rattle.quarter.specs.Blank.{noSheet}
+use Rattle.quarter.specs.Quarter.{samplesOf, quarterHeld}
 use Rattle.settlement.specs.Sums.{summedOf}
-use Rattle.settlement.specs.declared.quarter.Settled.{Settled}
-use Rattle.settlement.specs.declared.sheet.Sheet.{Sheet}
-use Rattle.settlement.specs.declared.sheet.Terms.{Terms}
+use Rattle.quarter.specs.declared.hour.Settled.{Settled}
 use Rattle.settlement.specs.declared.sums.Sums.{Sums}
 use Rattle.settlement.specs.declared.run.Taken.{Taken}
 use Rattle.contracts.specs.Book.{emptyBook, contractRefusal, withContract}
@@ -65,10 +59,6 @@ runOf h = freshRun (h .date) (intervalOf (up (h .interval))) (up (h .lot)) (leas
 
 unfoldable pub openedOf : Header → Opened
 openedOf h = record { run = cond (accepted (openRefusal h)) (runOf h) noRun; refusal = openRefusal h }
-
--- how many samples a quarter hour has
-unfoldable pub samplesOf : Channel → ℕ
-samplesOf channel = windowsOf (channel .interval) .samples
 
 -- the run with one sample more
 unfoldable pub withSample : Run → ℤ → ℤ → Run
@@ -147,22 +137,9 @@ withContractIn run c identifier =
 unfoldable pub contractedOf : Run → Contract → List ℕ → Answer
 contractedOf run c identifier = answerOf (contractGround run c identifier) (withContractIn run c identifier) run
 
--- a contract's award and price, as the quarter hour takes them
-unfoldable pub termsOf : Awarded → Terms
-termsOf c = record { award = c .award; price = c .price }
-
--- how many contracts a list holds
-unfoldable pub heldOf : Book → ℕ
-heldOf book = leastOf (book .count) 32
-
-abbrev pub termsIn : Book → List Terms
-termsIn book = take (heldOf book) (each termsOf (book .contracts))
-
 -- the quarter hour at hand, from the channel where it began
 unfoldable pub quarterIn : Run → Settled
-quarterIn run =
-    quarterOf (run .channel) (run .channel .interval) (take (samplesOf (run .channel)) (run .setpoints))
-    (take (samplesOf (run .channel)) (run .actuals)) (termsIn (run .positive)) (termsIn (run .negative))
+quarterIn run = quarterHeld (run .channel) (run .setpoints) (run .actuals) (run .positive) (run .negative)
 
 -- the sums of a run, with those of a quarter hour
 unfoldable pub sumsAfter : Run → Settled → Sums
@@ -184,24 +161,6 @@ settledOf run quarter =
       filled = 0;
       fees = sumsAfter run quarter .fees;
       penalties = sumsAfter run quarter .penalties;
-    }
-
--- the figures of nothing
-unfoldable pub noSheet : Sheet
-noSheet =
-    record {
-      pool = record {
-        setpoint = kwh 0;
-        actual = kwh 0;
-        acceptance = kwh 0;
-        surplus = kwh 0;
-        shortfall = kwh 0;
-        share = kwh 0;
-        «under_delivery» = kwh 0;
-        billed = kwh 0;
-      };
-      lines = noLines;
-      count = 0;
     }
 
 unfoldable pub takeGround : Run → Refusal

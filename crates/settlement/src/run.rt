@@ -2,24 +2,21 @@
 use crate::input::Contract;
 use crate::input::Header;
 use crate::input::Sample;
-use crate::quarter::Settled;
-use crate::quarter::quarter_hour;
-use crate::sheet::Line;
-use crate::sheet::Pool;
-use crate::sheet::Sheet;
-use crate::sheet::Terms;
 use crate::sums::Sums;
 use crate::sums::with_lines;
 use arithmetic::date::Date;
-use arithmetic::energy::Kwh;
 use arithmetic::money::Cents;
 use arithmetic::whole::above_zero;
 use arithmetic::whole::least;
 use arithmetic::whole::within;
 use channel::Channel;
 use channel::interval::Interval;
-use contracts::book::Awarded;
 use contracts::book::Book;
+use quarter::hour::Settled;
+use quarter::hour::quarter_hour;
+use quarter::hour::samples_of;
+use quarter::sheet::Sheet;
+use quarter::sheet::no_sheet;
 use refusals::Refusal;
 use values::direction::Direction;
 ghost use mathlib.Core.Path.{_≡_};
@@ -28,11 +25,7 @@ ghost use Rattle.refusals.specs.Refusals.{numberOf};
 ghost use Rattle.values.specs.Part.{mirrorOf};
 ghost use Rattle.arithmetic.specs.Whole.{up, leastOf};
 ghost use Rattle.settlement.specs.Calls.{secondsKnown, intervalOf, openRefusal, powerInRange, sampleRefusal, endRefusal, unbegun, takeRefusal, Admitted};
-ghost use Rattle.settlement.specs.Run.{freshRun, noRun, openedOf, sampledOf, endedOf, headingOf, samplesOf, bookOf, withBook, contractGround, contractedOf, termsOf, heldOf, termsIn, noSheet, quarterIn, settledOf, takenOf};
-ghost use Rattle.settlement.specs.Quarter.{quarterOf};
-ghost use Rattle.settlement.specs.Sums.{summedOf};
-ghost use Rattle.series.specs.Scan.{each};
-ghost use lib.ListN.{take};
+ghost use Rattle.settlement.specs.Run.{freshRun, noRun, openedOf, sampledOf, endedOf, headingOf, bookOf, withBook, contractGround, contractedOf, quarterIn, settledOf, takenOf};
 
 // The samples of the quarter hour at hand are kept until it is taken; the channel stands where that quarter hour began.
 pub struct Run {
@@ -207,15 +200,6 @@ fn before_samples(filled: usize, taken: u8, quarters: u8) -> bool
     quarters != 0
 }
 
-// How many samples a quarter hour of a channel's interval has.
-fn samples_of(channel: Channel) -> usize
-    ensures { λ r. ⌜ (r ≡ samplesOf channel) × (r ≤ 900) ⌝ }
-{
-    let interval = channel.interval();
-    let windows = interval.windows();
-    windows.samples
-}
-
 impl Run {
     pub fn open(header: Header) -> Opened
         ensures { λ r. ⌜ r ≡ openedOf header ⌝ }
@@ -318,8 +302,7 @@ impl Run {
     }
 
     // The quarter hour at hand, from its samples.
-    fn settled(self, samples: usize) -> Settled
-        requires { ⌜ samples ≡ samplesOf (self .channel) ⌝ }
+    fn settled(self) -> Settled
         ensures { λ r. ⌜ r ≡ quarterIn self ⌝ }
     {
         let channel = self.channel;
@@ -327,7 +310,7 @@ impl Run {
         let actuals = self.actuals;
         let positive = self.positive;
         let negative = self.negative;
-        held_quarter(channel, setpoints, actuals, samples, positive, negative)
+        quarter_hour(channel, setpoints, actuals, positive, negative)
     }
 
     // The run after a quarter hour: the channel led on, its fees and penalties added, room for the next samples.
@@ -374,7 +357,7 @@ impl Run {
                 negative: no_sheet(),
             };
         }
-        let quarter = self.settled(samples);
+        let quarter = self.settled();
         let above = quarter.positive;
         let below = quarter.negative;
         Taken {
@@ -441,97 +424,4 @@ fn take_refusal(samples: usize, filled: usize, taken: u8, quarters: u8) -> Refus
         return Refusal::WrongMoment;
     }
     Refusal::None
-}
-
-fn terms_of(contract: Awarded) -> Terms
-    ensures { λ r. ⌜ r ≡ termsOf contract ⌝ }
-{
-    Terms {
-        award: contract.award,
-        price: contract.price,
-    }
-}
-
-// The awards and prices of a contract list.
-fn terms(contracts: [Awarded; 32]) -> [Terms; 32]
-    ensures { λ r. ⌜ r ≡ each termsOf contracts ⌝ }
-{
-    let mut out = [Terms { award: 0, price: 0 }; 32];
-    let mut k = 0;
-    while k < 32 {
-        out[k] = terms_of(contracts[k]);
-        k += 1;
-    }
-    out
-}
-
-// How many contracts a list holds, whatever its count says.
-fn held(book: Book) -> usize
-    ensures { λ r. ⌜ (r ≡ heldOf book) × (r ≤ 32) ⌝ }
-{
-    let count = book.count();
-    if count <= 32 {
-        return count;
-    }
-    32
-}
-
-// The figures of nothing.
-fn no_sheet() -> Sheet
-    ensures { λ r. ⌜ r ≡ noSheet ⌝ }
-{
-    let line = Line {
-        setpoint: Kwh(0),
-        actual: Kwh(0),
-        acceptance: Kwh(0),
-        shortfall: Kwh(0),
-        share: Kwh(0),
-        under_delivery: Kwh(0),
-        billed: Kwh(0),
-        fee: Cents(0),
-        penalty: Cents(0),
-    };
-    let pool = Pool {
-        setpoint: Kwh(0),
-        actual: Kwh(0),
-        acceptance: Kwh(0),
-        surplus: Kwh(0),
-        shortfall: Kwh(0),
-        share: Kwh(0),
-        under_delivery: Kwh(0),
-        billed: Kwh(0),
-    };
-    let lines = [line; 32];
-    Sheet {
-        pool: pool,
-        lines: lines,
-        count: 0,
-    }
-}
-
-// The quarter hour of the first samples of two arrays.
-fn held_quarter(
-    channel: Channel,
-    setpoints: [i32; 900],
-    actuals: [i32; 900],
-    samples: usize,
-    positive: Book,
-    negative: Book,
-) -> Settled
-    requires { ⌜ samples ≡ samplesOf channel ⌝ }
-    ensures { λ r. ⌜ r ≡ quarterOf channel (channel .interval) (take samples setpoints) (take samples actuals) (termsIn positive) (termsIn negative) ⌝ }
-{
-    let above = terms(positive.contracts());
-    let below = terms(negative.contracts());
-    let interval = channel.interval();
-    quarter_hour(
-        channel,
-        &setpoints[..samples],
-        &actuals[..samples],
-        above,
-        held(positive),
-        below,
-        held(negative),
-        interval,
-    )
 }

@@ -9,9 +9,9 @@ use Rattle.arithmetic.specs.declared.energy.Kwh.{Kwh}
 use Rattle.arithmetic.specs.declared.money.Cents.{Cents}
 use Rattle.channel.specs.declared.interval.Interval.the-variants.{Four}
 use Rattle.contracts.specs.declared.book.Awarded.{Awarded}
-use Rattle.settlement.specs.declared.sheet.Pool.{Pool}
-use Rattle.settlement.specs.declared.sheet.Line.{Line}
-use Rattle.settlement.specs.declared.sheet.Sheet.{Sheet}
+use Rattle.quarter.specs.declared.sheet.Pool.{Pool}
+use Rattle.quarter.specs.declared.sheet.Line.{Line}
+use Rattle.quarter.specs.declared.sheet.Sheet.{Sheet}
 use Rattle.refusals.specs.declared.Refusal.the-variants.{NoEnd}
 
 abbrev kwh : ℕ → Kwh

@@ -1,0 +1,48 @@
+-- A loop over the first `count` elements of an array that stores one output for each; and the arrays before it.
+-- Assumes nothing.
+use mathlib.Core.Path.{_≡_, refl}
+use mathlib.Core.List.{List, _++_}
+use Prim.Native.Nat.{ℕ, _+_, _≤_, _<_}
+use native.Mathlib.Omega.{arith}
+use lib.ListN.{length, take, drop, set, getD}
+use lib.Seq.{getD-take, length-take-le}
+use Rattle.series.specs.Scan.{outputs}
+use Rattle.series.proofs.Scanned.{Scanned, scanned-more, scanned-all}
+use Rattle.quarter.specs.Blank.{noBounds, noPowers, noLimits, noEnergies, noClaims, noLines}
+
+module _ {S X Y : Type 0} (step : S → X → S) (out : S → X → Y) (s : S) (l : List X) (count : ℕ) (blank : List Y) (enough : count ≤ length l) where
+  pub first-more : (t : S) (m : List Y) (k : ℕ) (d : X) → count ≤ length blank → k < count
+      → Scanned step out s (take count l) blank t m k → Scanned step out s (take count l) blank (step t (getD l k d)) (set m k (out t (getD l k d))) (k + 1)
+  first-more t m k d room h f =
+      let n : length (take count l) ≡ count = length-take-le count l enough in
+      let e : getD (take count l) k d ≡ getD l k d = getD-take count l k d h in
+      rw e at (scanned-more step out s (take count l) blank t m k d (omega arith) (omega arith) f)
+
+  pub first-all : (t : S) (m : List Y) (k : ℕ) → count ≤ k → Scanned step out s (take count l) blank t m k → m ≡ outputs step out s (take count l) ++ drop count blank
+  first-all t m k h f =
+      let n : length (take count l) ≡ count = length-take-le count l enough in
+      rw n at (scanned-all step out s (take count l) blank t m k (omega arith) f)
+
+pub limits-32 : length noLimits ≡ 32
+unfolding noLimits
+limits-32 = refl
+
+pub energies-32 : length noEnergies ≡ 32
+unfolding noEnergies
+energies-32 = refl
+
+pub claims-32 : length noClaims ≡ 32
+unfolding noClaims
+claims-32 = refl
+
+pub bounds-900 : length noBounds ≡ 900
+unfolding noBounds
+bounds-900 = refl
+
+pub powers-900 : length noPowers ≡ 900
+unfolding noPowers
+powers-900 = refl
+
+pub lines-32 : length noLines ≡ 32
+unfolding noLines
+lines-32 = refl

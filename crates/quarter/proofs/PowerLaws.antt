@@ -1,0 +1,72 @@
+-- A quantity of a sample in the words of 01 is the amount that the code computes; how many there are, and how far their sum reaches.
+-- Assumes nothing.
+use mathlib.Core.Path.{_≡_, refl, sym, ap, _∙_}
+use mathlib.Core.List.{List, [], _∷_, _++_}
+use Prim.Native.Nat.{ℕ, suc, _+_, _*_, _^_, _≤_, _<_}
+use native.Mathlib.Omega.{arith}
+use native.Mathlib.Numerals.{add-one}
+use native.Mathlib.Nat.{mul-le-mul-left, mul-le-mul-right, mul-assoc}
+use lib.IntN.{ℤ, pos}
+use lib.ListN.{length, take, drop, set, getD}
+use lib.Seq.{take-suc-set, take-at}
+use Rattle.arithmetic.specs.Whole.{up}
+use Rattle.arithmetic.proofs.Signed.{up-pos}
+use Rattle.series.specs.Scan.{outputs}
+use Rattle.series.specs.Sums.{overOf, sumOf}
+use Rattle.values.specs.declared.direction.Direction.{Direction}
+use Rattle.values.specs.declared.value.Quantity.{Quantity}
+use Rattle.values.specs.declared.part.Part.{Part}
+use Rattle.values.specs.Part.{partOf, amountOf}
+use Rattle.values.proofs.Written.{written}
+use Rattle.quarter.specs.Powers.{Samples, next, powerAt, powersOf}
+use Rattle.quarter.specs.Blank.{noPowers}
+use Rattle.quarter.specs.Room.{Filled, Small}
+
+-- the part of a sample that a direction sees
+abbrev pub partAt : Direction → Samples → ℕ → ℤ → Part
+partAt d x i s = partOf d s (getD (x .actuals) i (pos 0)) (getD (x .ogas) i (pos 0)) (getD (x .ugas) i (pos 0))
+
+pub power-is : (d : Direction) (x : Samples) (q : Quantity) (i : ℕ) (s : ℤ) → powerAt d x q i s ≡ amountOf q (partAt d x i s)
+unfolding powerAt
+power-is d x q i s =
+    ap up (written q d s (getD (x .actuals) i (pos 0)) (getD (x .ogas) i (pos 0)) (getD (x .ugas) i (pos 0))) ∙ up-pos (amountOf q (partAt d x i s))
+
+pub outputs-length : {S X Y : Type 0} (step : S → X → S) (out : S → X → Y) (s : S) (l : List X) → length (outputs step out s l) ≡ length l
+unfolding outputs
+outputs-length step out s [] = refl
+outputs-length step out s (x ∷ l) = ap suc (outputs-length step out (step s x) l)
+
+pub powers-length : (d : Direction) (x : Samples) (q : Quantity) → length (powersOf d x q) ≡ length (x .setpoints)
+powers-length d x q = outputs-length next (powerAt d x q) 0 (x .setpoints)
+
+-- the sum of what a loop has stored so far
+sum-snoc : (l : List ℕ) (v : ℕ) → sumOf (l ++ (v ∷ [])) ≡ sumOf l + v
+unfolding overOf
+sum-snoc [] v = omega arith
+sum-snoc (x ∷ l) v = omega (arith, sum-snoc l v)
+
+pub sum-more : (l : List ℕ) (k v : ℕ) → k < length l → v ≤ 2 ^ 44 → sumOf (take k l) ≤ k * 2 ^ 44 → sumOf (take (k + 1) (set l k v)) ≤ (k + 1) * 2 ^ 44
+sum-more l k v h b e = rw (add-one, take-suc-set l k v h, sum-snoc (take k l) v) (omega arith)
+
+-- an array filled with powers: the powers in front, and that their sums fit
+module _ (powers r : List ℕ) (n : ℕ) (count : length powers ≡ n) where
+  pub filled : r ≡ powers ++ drop n noPowers → sumOf (take n r) ≤ n * 2 ^ 44 → Filled powers r
+  filled e b =
+      record {
+        are = rw count e;
+        small = rw (e, take-at powers (drop n noPowers) n count, ← count) at b;
+      }
+
+  pub front : Filled powers r → take n r ≡ powers
+  front f = rw (f .are, count) (take-at powers (drop n noPowers) n count)
+
+  pub front-length : Filled powers r → n ≡ length (take n r)
+  front-length f = sym (ap length (front f) ∙ count)
+
+  pub small : (seconds : ℕ) → n ≤ 900 → seconds * n ≤ 900 → Filled powers r → Small seconds powers
+  small seconds few quarter f =
+      let b : sumOf powers ≤ n * 2 ^ 44 = rw (← count) (f .small) in
+      record {
+        held = omega (arith, mul-le-mul-left seconds b, mul-assoc seconds n (2 ^ 44), mul-le-mul-right (2 ^ 44) quarter);
+        plain = omega arith;
+      }

@@ -1,0 +1,4 @@
+pub mod Blank
+pub mod Powers
+pub mod Room
+pub mod Quarter
