@@ -23,8 +23,8 @@ use Rattle.quarter.specs.declared.hour.Settled.{Settled}
 use Rattle.settlement.specs.declared.sums.Sums.{Sums}
 use Rattle.settlement.specs.declared.run.Taken.{Taken}
 use Rattle.contracts.specs.Book.{emptyBook, contractRefusal, withContract}
-use Rattle.settlement.specs.declared.input.Contract.{Contract}
-use Rattle.settlement.specs.declared.input.Header.{Header}
+use Rattle.input.specs.declared.Contract.{Contract}
+use Rattle.input.specs.declared.Header.{Header}
 use Rattle.settlement.specs.declared.run.Run.{Run}
 use Rattle.settlement.specs.declared.run.Opened.{Opened}
 use Rattle.settlement.specs.declared.run.Answer.{Answer}

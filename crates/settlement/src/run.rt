@@ -1,7 +1,4 @@
 // A run: one stretch of quarter hours with its contracts. It goes into each call by value and comes back, with the refusal.
-use crate::input::Contract;
-use crate::input::Header;
-use crate::input::Sample;
 use crate::sums::Sums;
 use crate::sums::with_lines;
 use arithmetic::date::Date;
@@ -12,6 +9,9 @@ use arithmetic::whole::within;
 use channel::Channel;
 use channel::interval::Interval;
 use contracts::book::Book;
+use input::Contract;
+use input::Header;
+use input::Sample;
 use quarter::hour::Settled;
 use quarter::hour::quarter_hour;
 use quarter::hour::samples_of;

@@ -17,10 +17,10 @@ use Rattle.lines.specs.declared.Gatherer.{Gatherer}
 use Rattle.lines.proofs.Held.{Holds, kept-whole, kept-overlong}
 use Rattle.lines.proofs.WholeInput.{whole-input, lines-counted}
 use Rattle.sheets.specs.Buffer.{printAnswer, printInto}
-use Rattle.text.specs.Line.{lineOf}
+use Rattle.reading.specs.Line.{lineOf}
 use Rattle.text.specs.Desk.{Turn, Tells, emptyDesk, quiet, turnAt, nextTurn, lineTurn, finishTurn, answerOf}
 use Rattle.text.specs.Settle.{andThen, withLine, withEnd, afterLines, settle, writtenOut, Served, Calls, none, more}
-use Rattle.text.specs.declared.line.Line.the-variants.{Malformed}
+use Rattle.reading.specs.declared.Line.the-variants.{Malformed}
 use Rattle.text.specs.declared.desk.Stage.{Stage}
 use Rattle.text.specs.declared.desk.Stage.the-variants.{Empty, Open, Closed}
 use Rattle.text.specs.declared.desk.Desk.{Desk}

@@ -8,9 +8,9 @@ use lib.IntN.{pos}
 use Rattle.refusals.specs.declared.Refusal.{Refusal}
 use Rattle.refusals.specs.declared.Refusal.the-variants.{WrongMoment, BadLine, NoEnd}
 use Rattle.refusals.specs.Refusals.{accepted}
-use Rattle.settlement.specs.declared.input.Contract.{Contract}
-use Rattle.settlement.specs.declared.input.Header.{Header}
-use Rattle.settlement.specs.declared.input.Sample.{Sample}
+use Rattle.input.specs.declared.Contract.{Contract}
+use Rattle.input.specs.declared.Header.{Header}
+use Rattle.input.specs.declared.Sample.{Sample}
 use Rattle.settlement.specs.declared.run.Run.{Run}
 use Rattle.settlement.specs.declared.run.Taken.{Taken}
 use Rattle.settlement.specs.declared.run.Heading.{Heading}
@@ -20,9 +20,9 @@ use Rattle.sheets.specs.Sheet.{headText, quarterText, totalText, refusalText}
 use Rattle.sheets.specs.Buffer.{printAnswer, printInto}
 use Rattle.sheets.specs.declared.Printed.{Printed}
 use Rattle.sheets.specs.declared.Printed.the-variants.{Length, TooShort}
-use Rattle.text.specs.Line.{lineOf, identifierOf}
-use Rattle.text.specs.declared.line.Line.{Line}
-use Rattle.text.specs.declared.line.Line.the-variants as L
+use Rattle.reading.specs.Line.{lineOf, identifierOf}
+use Rattle.reading.specs.declared.Line.{Line}
+use Rattle.reading.specs.declared.Line.the-variants as L
 use Rattle.text.specs.declared.desk.Stage.{Stage}
 use Rattle.text.specs.declared.desk.Stage.the-variants.{Empty, Open, Closed}
 use Rattle.text.specs.declared.desk.Desk.{Desk}

@@ -1,12 +1,12 @@
 // The desk takes the lines of an input one after the other, hands what they say to the run, and prints what there is to say.
-use crate::line::Line;
-use crate::line::identifier;
-use crate::line::read;
 use arithmetic::date::Date;
+use input::Contract;
+use input::Header;
+use input::Sample;
+use reading::Line;
+use reading::identifier;
+use reading::read;
 use refusals::Refusal;
-use settlement::input::Contract;
-use settlement::input::Header;
-use settlement::input::Sample;
 use settlement::run::Run;
 use settlement::run::Taken;
 use sheets::Printed;
@@ -19,7 +19,7 @@ ghost use mathlib.Core.Path.{_≡_};
 ghost use Prim.Native.Nat.{_≤_};
 ghost use lib.ListN.{length};
 ghost use Rattle.sheets.specs.Buffer.{printAnswer, printInto};
-ghost use Rattle.text.specs.Line.{lineOf};
+ghost use Rattle.reading.specs.Line.{lineOf};
 ghost use Rattle.text.specs.Desk.{Tells, emptyDesk, answerOf, refusedTurn, openTurn, contractTurn, takenText, quarterTurn, sampleTurn, endTurn, firstTurn, nextTurn, lineTurn, finishTurn, closedAt};
 
 // Before the header; while the run is open; after the end or a refusal, when nothing is read any more.
