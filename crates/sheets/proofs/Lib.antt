@@ -1,5 +1,4 @@
 pub mod Fields
 pub mod Contracts
 pub mod Printing
-pub mod Only
 pub mod Listing

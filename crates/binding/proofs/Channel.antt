@@ -1,0 +1,44 @@
+-- No second answer fits a call of `channel`.
+use mathlib.Core.Path.{_≡_, _∙_, sym}
+use Rattle.binding.specs.Single.{Single}
+use Rattle.binding.proofs.Arithmetic.{units-single}
+use Rattle.channel.proofs.interval.Interval.windows.Reads as windows
+use Rattle.channel.proofs.Channel.new.Reads as new
+use Rattle.channel.proofs.Channel.follow.Reads as follow
+use Rattle.channel.proofs.Channel.sized.Reads as sized
+use Rattle.channel.proofs.Channel.oga.Reads as oga
+use Rattle.channel.proofs.Channel.uga.Reads as uga
+use Rattle.channel.proofs.Channel.interval.Reads as interval
+use Rattle.channel.proofs.Channel.lot.Reads as lot
+use Rattle.channel.proofs.tolerance.ogt.Reads as ogt
+use Rattle.channel.proofs.tolerance.ugt.Reads as ugt
+
+windows-single : Single windows.Post
+windows-single κs a r r′ x x′ p q = p ∙ sym q
+
+new-single : Single new.Post
+new-single κs a r r′ x x′ p q = p .0 ∙ sym (q .0)
+
+follow-single : Single follow.Post
+follow-single κs a r r′ x x′ p q = p .0 ∙ sym (q .0)
+
+sized-single : Single sized.Post
+sized-single κs a r r′ x x′ p q = p .0 ∙ sym (q .0)
+
+oga-single : Single oga.Post
+oga-single κs a r r′ x x′ p q = p ∙ sym q
+
+uga-single : Single uga.Post
+uga-single κs a r r′ x x′ p q = p ∙ sym q
+
+interval-single : Single interval.Post
+interval-single κs a r r′ x x′ p q = p ∙ sym q
+
+lot-single : Single lot.Post
+lot-single κs a r r′ x x′ p q = p ∙ sym q
+
+ogt-single : Single ogt.Post
+ogt-single κs a r r′ x x′ p q = units-single (p ∙ sym q)
+
+ugt-single : Single ugt.Post
+ugt-single κs a r r′ x x′ p q = units-single (p ∙ sym q)

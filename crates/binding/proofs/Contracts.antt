@@ -1,0 +1,27 @@
+-- No second answer fits a call of `contracts`.
+use mathlib.Core.Path.{_≡_, _∙_, sym}
+use Rattle.binding.specs.Single.{Single}
+use Rattle.contracts.proofs.book.Book.new.Reads as new
+use Rattle.contracts.proofs.book.Book.contracts.Reads as contracts
+use Rattle.contracts.proofs.book.Book.count.Reads as count
+use Rattle.contracts.proofs.book.Book.refusal.Reads as refusal
+use Rattle.contracts.proofs.book.Book.with.Reads as with
+use Rattle.contracts.proofs.identifier.well_formed.Reads as well-formed
+
+new-single : Single new.Post
+new-single κs a r r′ x x′ p q = p ∙ sym q
+
+contracts-single : Single contracts.Post
+contracts-single κs a r r′ x x′ p q = p ∙ sym q
+
+count-single : Single count.Post
+count-single κs a r r′ x x′ p q = p ∙ sym q
+
+refusal-single : Single refusal.Post
+refusal-single κs a r r′ x x′ p q = p ∙ sym q
+
+with-single : Single with.Post
+with-single κs a r r′ x x′ p q = p ∙ sym q
+
+well-formed-single : Single well-formed.Post
+well-formed-single κs a r r′ x x′ p q = p ∙ sym q

@@ -1,0 +1,31 @@
+-- No second answer fits a call of `settlement`.
+use mathlib.Core.Path.{_≡_, _∙_, sym}
+use Rattle.binding.specs.Single.{Single}
+use Rattle.settlement.proofs.run.Run.open.Reads as opened
+use Rattle.settlement.proofs.run.Run.book.Reads as book
+use Rattle.settlement.proofs.run.Run.contract.Reads as contract
+use Rattle.settlement.proofs.run.Run.sample.Reads as sample
+use Rattle.settlement.proofs.run.Run.take.Reads as take
+use Rattle.settlement.proofs.run.Run.end.Reads as end
+use Rattle.settlement.proofs.run.Run.heading.Reads as heading
+
+opened-single : Single opened.Post
+opened-single κs a r r′ x x′ p q = p ∙ sym q
+
+book-single : Single book.Post
+book-single κs a r r′ x x′ p q = p ∙ sym q
+
+contract-single : Single contract.Post
+contract-single κs a r r′ x x′ p q = p ∙ sym q
+
+sample-single : Single sample.Post
+sample-single κs a r r′ x x′ p q = p ∙ sym q
+
+take-single : Single take.Post
+take-single κs a r r′ x x′ p q = p ∙ sym q
+
+end-single : Single end.Post
+end-single κs a r r′ x x′ p q = p ∙ sym q
+
+heading-single : Single heading.Post
+heading-single κs a r r′ x x′ p q = p ∙ sym q

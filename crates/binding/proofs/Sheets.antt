@@ -1,0 +1,20 @@
+-- No second answer fits a call of `sheets`.
+use mathlib.Core.Path.{_≡_, _∙_, sym}
+use denote.Ref.{now}
+use Rattle.binding.specs.Single.{SingleBytes}
+use Rattle.sheets.proofs.print_head.Reads as print-head
+use Rattle.sheets.proofs.print_quarter.Reads as print-quarter
+use Rattle.sheets.proofs.print_total.Reads as print-total
+use Rattle.sheets.proofs.print_refusal.Reads as print-refusal
+
+print-head-single : SingleBytes (λ κs x. now (x .0)) print-head.Post
+print-head-single κs a r r′ x x′ p q = (p .0 ∙ sym (q .0), p .1 .0 ∙ sym (q .1 .0))
+
+print-quarter-single : SingleBytes (λ κs x. now (x .0)) print-quarter.Post
+print-quarter-single κs a r r′ x x′ p q = (p .0 ∙ sym (q .0), p .1 .0 ∙ sym (q .1 .0))
+
+print-total-single : SingleBytes (λ κs x. now (x .0)) print-total.Post
+print-total-single κs a r r′ x x′ p q = (p .0 ∙ sym (q .0), p .1 .0 ∙ sym (q .1 .0))
+
+print-refusal-single : SingleBytes (λ κs x. now (x .0)) print-refusal.Post
+print-refusal-single κs a r r′ x x′ p q = (p .0 ∙ sym (q .0), p .1 .0 ∙ sym (q .1 .0))
