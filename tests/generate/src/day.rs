@@ -1,5 +1,5 @@
-//! One whole day as a pool might run it: a sample each second, 96 quarter
-//! hours, eight contracts a direction.
+//! One whole day as a pool might run it: 96 quarter hours, with the interval
+//! and the contracts a direction that are asked for.
 
 use crate::random::Random;
 
@@ -7,13 +7,14 @@ const SECONDS: usize = 86_400;
 /// How long the pool takes to answer a change, in seconds.
 const LAG: usize = 20;
 
-pub fn write() -> Vec<u8> {
+pub fn write(interval: usize, contracts: i64) -> Vec<u8> {
     let mut random = Random::new(20_170_220);
-    let mut text = String::from("D\t2017-02-20\t1\t-\t96\n");
+    let mut text = format!("D\t2017-02-20\t{interval}\t-\t96\n");
     for (direction, letter) in [("P", 'A'), ("N", 'B')] {
         let mut price = if direction == "P" { 4_150 } else { -1_980 };
-        for number in 1..=8 {
-            let award = 1_000 * random.between(5, 15);
+        for number in 1..=contracts {
+            // Some 80 MW a direction, in as many parts as there are contracts.
+            let award = 8 * random.between(5_000, 15_000) / contracts;
             text += &format!("C\t{direction}\tSRL-{letter}{number}\t{award}\t{price}\n");
             price += random.between(50, 2_500);
         }
@@ -42,7 +43,9 @@ pub fn write() -> Vec<u8> {
         let followed = setpoints[second.saturating_sub(LAG)];
         actual += (followed - actual) / 12;
         let measured = actual * percent / 100 + random.between(-150, 150);
-        text += &format!("S\t{setpoint}\t{measured}\n");
+        if second % interval == 0 {
+            text += &format!("S\t{setpoint}\t{measured}\n");
+        }
     }
     text += "E\n";
     text.into_bytes()

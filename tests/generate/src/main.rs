@@ -1,6 +1,6 @@
 //! Writes test inputs for the settling program: `generate SEED` one input that
 //! is the same for the same seed, sound or damaged about as often; `generate
-//! day` one whole day.
+//! day INTERVAL CONTRACTS` one whole day.
 
 mod curves;
 mod damage;
@@ -18,7 +18,10 @@ use random::Random;
 fn main() -> ExitCode {
     let arguments: Vec<String> = env::args().skip(1).collect();
     let text = match arguments.as_slice() {
-        [mode] if mode == "day" => day::write(),
+        [mode, interval, contracts] if mode == "day" => match day_of(interval, contracts) {
+            Some(text) => text,
+            None => return usage(),
+        },
         [seed] => match seed.parse() {
             Ok(seed) => input(seed),
             Err(_) => return usage(),
@@ -32,8 +35,19 @@ fn main() -> ExitCode {
 }
 
 fn usage() -> ExitCode {
-    let _ = writeln!(io::stderr(), "usage: generate SEED, or generate day");
+    let _ = writeln!(
+        io::stderr(),
+        "usage: generate SEED, or generate day INTERVAL CONTRACTS"
+    );
     ExitCode::from(2)
+}
+
+/// A day with an interval of 1, 3 or 4 seconds and 1 to 32 contracts a
+/// direction.
+fn day_of(interval: &str, contracts: &str) -> Option<Vec<u8>> {
+    let interval = interval.parse().ok().filter(|i| [1, 3, 4].contains(i))?;
+    let contracts = contracts.parse().ok().filter(|c| (1..=32).contains(c))?;
+    Some(day::write(interval, contracts))
 }
 
 /// The input of a seed.
@@ -84,8 +98,11 @@ mod tests {
 
     #[test]
     fn the_day_is_whole() {
-        let day = day::write();
-        let lines = day.split_inclusive(|&byte| byte == b'\n');
-        assert_eq!(lines.count(), 1 + 16 + 86_400 + 1);
+        for (interval, contracts) in [(1, 8), (3, 1), (4, 32)] {
+            let day = day::write(interval, contracts);
+            let lines = day.split_inclusive(|&byte| byte == b'\n');
+            let samples = 86_400 / interval;
+            assert_eq!(lines.count(), 1 + 2 * contracts as usize + samples + 1);
+        }
     }
 }
