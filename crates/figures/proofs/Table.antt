@@ -13,11 +13,12 @@ use Rattle.arithmetic.specs.Money.{wholeOf, feeOf}
 use Rattle.channel.specs.Tolerance.{fivePercentMore, fivePercentLess, ogtOf, ugtOf}
 use Rattle.values.specs.Values.{plus, acceptance, surplus, under-delivery, shortfall}
 use Rattle.series.specs.Sums.{overOf}
-use Rattle.series.specs.Scan.{each}
+use Rattle.series.specs.Scan.{outputs, each}
+use Rattle.quarter.specs.Quarter.{upperOf}
 use Rattle.series.specs.Slices.{sliceOf}
 use Rattle.shares.specs.Largest.{pickOf, marked, marksOf}
 use Rattle.shares.specs.Shares.{handedOut, shareFloor, remainder, added, partedOf, sharesOf}
-use Rattle.figures.specs.Figures.{Figure, slicesAbove, in32, given, said, figures}
+use Rattle.figures.specs.Figures.{Figure, in32, given, said, figures}
 
 -- ---- the test
 
@@ -45,7 +46,7 @@ all [] = true
 all (f ∷ fs) = both (right f) (all fs)
 
 tested : T (all figures)
-unfolding figures right given said slicesAbove in32
+unfolding figures right given said in32 outputs upperOf
     maxZ minZ leastOf unitsOf kwhOf energyOf wholeOf feeOf fivePercentMore fivePercentLess ogtOf ugtOf
     plus acceptance surplus under-delivery shortfall overOf each sliceOf
     pickOf marked marksOf handedOut shareFloor remainder added partedOf sharesOf

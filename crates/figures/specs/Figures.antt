@@ -1,6 +1,6 @@
 -- The starred figures of 01, 'Figures to check by', in its order: what a row starts from, what the definitions give for it, and
 -- what 01 says.
-use Prim.Native.Nat.{ℕ, _+_, _*_, _-_}
+use Prim.Native.Nat.{ℕ, _*_, _-_}
 use mathlib.Core.List.{List, [], _∷_, _++_}
 use lib.ListN.{length, replicate}
 use lib.IntN.{ℤ, pos, negℤ}
@@ -14,6 +14,8 @@ use Rattle.values.specs.declared.value.Quantity.the-variants.{Acceptance, Surpl
 use Rattle.values.specs.Values.{valueOf, seen, sampleOf}
 use Rattle.series.specs.Slices.{sliceOf}
 use Rattle.series.specs.Scan.{each}
+use Rattle.quarter.specs.declared.sheet.Terms.{Terms}
+use Rattle.quarter.specs.Quarter.{Cut, cutsOf, limitsOf}
 use Rattle.shares.specs.Shares.{sharesOf}
 
 -- a row of each kind, what it starts from before what comes of it
@@ -29,10 +31,17 @@ pub data Figure : Type 0 where
   -- kWh billed and price in cent per MWh, and the fee in cent
   fee : ℕ → ℤ → ℤ → Figure
 
--- the contracts' slices of a power, above the limit `low`: the upper limit of each is the lower limit of the next
-unfoldable pub slicesAbove : ℕ → List ℕ → ℕ → List ℕ
-slicesAbove low [] power = []
-slicesAbove low (award ∷ awards) power = sliceOf low (low + award) power ∷ slicesAbove (low + award) awards power
+-- contracts with these awards, at no price
+abbrev pub awarded : ℕ → Terms
+awarded award = record { award = award; price = pos 0 }
+
+-- a contract's slice of a power
+abbrev pub slice : ℕ → Cut → ℕ
+slice power c = sliceOf (c .low) (c .high) power
+
+-- kW in units
+abbrev pub units : ℕ → ℕ
+units kw = kw * 5400
 
 -- the 32 places of a direction: those without a contract have gap 0 and share 0
 unfoldable pub in32 : List ℕ → List ℕ
@@ -42,15 +51,15 @@ in32 ns = ns ++ replicate (32 - length ns) 0
 unfoldable pub given : Figure → List ℤ
 given (value direction setpoint actual bound quantity kw) =
     valueOf quantity (seen direction (sampleOf setpoint actual (unitsOf bound) (unitsOf bound))) ∷ []
-given (slices awards power parts) = each pos (slicesAbove 0 awards power)
+given (slices awards power parts) = each pos (each (slice (units power)) (cutsOf (limitsOf (each awarded awards))))
 given (shares gaps surplus parts) = each pos (sharesOf surplus (in32 gaps))
 given (energy unit-seconds kwh) = pos (energyOf unit-seconds .0) ∷ []
 given (fee kwh price cents) = feeOf record { 0 = kwh } price .0 ∷ []
 
--- what 01 says; one kW is 5,400 units
+-- what 01 says
 unfoldable pub said : Figure → List ℤ
-said (value direction setpoint actual bound quantity kw) = pos (kw * 5400) ∷ []
-said (slices awards power parts) = each pos parts
+said (value direction setpoint actual bound quantity kw) = pos (units kw) ∷ []
+said (slices awards power parts) = each pos (each units parts)
 said (shares gaps surplus parts) = each pos (in32 parts)
 said (energy unit-seconds kwh) = pos kwh ∷ []
 said (fee kwh price cents) = cents ∷ []
