@@ -1,7 +1,8 @@
 //! Writes test inputs for the settling program: `generate SEED` one input that
 //! is the same for the same seed, sound or damaged about as often; `generate
-//! day` one whole day.
+//! day` one whole day. `generate calls SEED` writes a script of library calls.
 
+mod calls;
 mod curves;
 mod damage;
 mod day;
@@ -18,12 +19,13 @@ use random::Random;
 fn main() -> ExitCode {
     let arguments: Vec<String> = env::args().skip(1).collect();
     let text = match arguments.as_slice() {
-        [mode] if mode == "day" => day::write(),
-        [seed] => match seed.parse() {
-            Ok(seed) => input(seed),
-            Err(_) => return usage(),
-        },
-        _ => return usage(),
+        [mode] if mode == "day" => Some(day::write()),
+        [mode, seed] if mode == "calls" => seed.parse().ok().map(calls::script),
+        [seed] => seed.parse().ok().map(input),
+        _ => None,
+    };
+    let Some(text) = text else {
+        return usage();
     };
     match io::stdout().lock().write_all(&text) {
         Ok(()) => ExitCode::SUCCESS,
@@ -32,7 +34,10 @@ fn main() -> ExitCode {
 }
 
 fn usage() -> ExitCode {
-    let _ = writeln!(io::stderr(), "usage: generate SEED, or generate day");
+    let _ = writeln!(
+        io::stderr(),
+        "usage: generate SEED, generate calls SEED, or generate day"
+    );
     ExitCode::from(2)
 }
 
