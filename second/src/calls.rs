@@ -1,21 +1,6 @@
 //! Library calls in any order: reads a script with one call a line and answers
-//! each as the library should. The fields of a line are parted by tabs, here
-//! written `|`:
-//!
-//! - `O|year|month|day|interval|lot|quarter hours` opens a run. What it gives,
-//!   a run or none, takes the place of the run at hand.
-//! - `C|P or N|award|price|identifier` adds a contract.
-//! - `S|times|setpoint|actual` sends the same sample so often.
-//! - `K` takes the quarter hour, `E` ends, `H` asks for the heading and the
-//!   lengths of the lists.
-//! - `V|room|year|month|day|interval|lot`, `Q|room|quarter hour`,
-//!   `T|room|quarter hours|fees|penalties` and `R|room|line|refusal` print a
-//!   heading, the quarter hour that was taken last, a total and a refusal. The
-//!   room takes two fields: `B` and the bytes of the buffer that is lent, or `T`
-//!   and how many more or fewer than the text has.
-//!
-//! Each answer begins with the number of the script's line and that of the
-//! refusal, 0 if there is none.
+//! each as the library should. The lines of a script and of the answers are
+//! described in crates/calls/src/main.rt.
 
 use std::io;
 

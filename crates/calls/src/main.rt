@@ -1,16 +1,18 @@
 // Library calls in any order and with any numbers: each line of a script on standard input is one call on the one run at hand, and what it answered
-// is written, so that another program can be held to it. The lines of a script, with | for the tab:
+// is written, so that another program can be compared. The lines of a script, with | for the tab:
 //   O|year|month|day|interval|lot|quarters        opens a run; what that gives, refused or not, takes the place of the run at hand
 //   C|P or N|award|price|identifier               a contract
 //   S|times|setpoint|actual                       the same sample so often
 //   K                                             takes the quarter hour
 //   E                                             ends
-//   H                                             the heading, and how many contracts the directions have
+//   H                                             asks for the heading and the contract lists
 //   V|B or T|bytes|year|month|day|interval|lot    prints a head
 //   Q|B or T|bytes|quarter                        prints the sheets of the last taking
 //   T|B or T|bytes|quarters|fees|penalties        prints a total
 //   R|B or T|bytes|line|refusal                   prints a refusal
-// A printing call is lent so many bytes (B), or so many more or fewer than its text has (T).
+// A printing call is lent so many bytes (B), or so many more or fewer than its text has (T). An answer is a line with the number of the script's line,
+// that of the refusal (0 where there is none) and a count: the samples accepted, the contracts in each direction, the length of what was printed. After
+// it stand, whether refused or not, the sheets, the total, the head, and the whole buffer that was lent.
 mod answer; // what is written
 mod script; // what the fields of a line say
 
@@ -25,7 +27,6 @@ use settlement::run::Answer;
 use settlement::run::Opened;
 use settlement::run::Run;
 use settlement::run::Taken;
-use settlement::sheet::Sheet;
 use sheets::Printed;
 use sheets::print_head;
 use sheets::print_quarter;
@@ -35,25 +36,7 @@ use values::direction::Direction;
 ghost use Prim.Native.Nat.{_≤_};
 ghost use lib.ListN.{length};
 
-// What a caller of the library holds: the run, and the quarter hour and the sheets that the last taking answered.
-struct Caller {
-    run: Run,
-    quarter: u8,
-    positive: Sheet,
-    negative: Sheet,
-}
-
-fn holding(taken: Taken) -> Caller {
-    let run = taken.run;
-    let positive = taken.positive;
-    let negative = taken.negative;
-    Caller {
-        run: run,
-        quarter: taken.quarter,
-        positive: positive,
-        negative: negative,
-    }
-}
+// What is held from call to call is what the last taking answered, the run at hand in it.
 
 fn opened(line: &[u8]) -> Opened {
     let header = Header {
@@ -66,27 +49,27 @@ fn opened(line: &[u8]) -> Opened {
 }
 
 // In a run that was just opened no quarter hour waits, so taking it shows sheets with nothing in them.
-fn open(at: u64, line: &[u8]) -> Caller {
+fn open(at: u64, line: &[u8]) -> Taken {
     let answer = opened(line);
     let run = answer.run;
     let refused = answer.refusal;
     answer::answered(at, refused.number());
-    holding(run.take())
+    run.take()
 }
 
-fn contract(mut caller: Caller, at: u64, line: &[u8]) -> Caller {
+fn contract(mut held: Taken, at: u64, line: &[u8]) -> Taken {
     let offered = Contract {
         direction: script::direction(line, 1),
         award: script::integer(line, 2),
         price: script::integer(line, 3),
     };
-    let run = caller.run;
+    let run = held.run;
     let answer = run.contract(offered, field(line, 4));
     let after = answer.run;
     let refused = answer.refusal;
     answer::answered(at, refused.number());
-    caller.run = after;
-    caller
+    held.run = after;
+    held
 }
 
 fn once(refusal: Refusal) -> u64 {
@@ -119,12 +102,12 @@ fn repeated(run: Run, sample: Sample, times: u64) -> Sampled {
     Sampled { last, accepted }
 }
 
-fn samples(mut caller: Caller, at: u64, line: &[u8]) -> Caller {
+fn samples(mut held: Taken, at: u64, line: &[u8]) -> Taken {
     let sample = Sample {
         setpoint: script::integer(line, 2),
         actual: script::integer(line, 3),
     };
-    let run = caller.run;
+    let run = held.run;
     let given = repeated(run, sample, script::count(line, 1, 65_535));
     let last = given.last;
     let refused = last.refusal;
@@ -132,38 +115,37 @@ fn samples(mut caller: Caller, at: u64, line: &[u8]) -> Caller {
     answer::also(given.accepted);
     answer::write(b"\n");
     let after = last.run;
-    caller.run = after;
-    caller
+    held.run = after;
+    held
 }
 
 // The sheets of the last taking, with the contracts of the run.
-fn print_sheets(caller: Caller, quarter: u8, out: &mut [u8]) -> Printed {
-    let run = caller.run;
+fn print_sheets(held: Taken, quarter: u8, out: &mut [u8]) -> Printed {
+    let run = held.run;
     let positives = run.book(Direction::Positive).contracts();
     let negatives = run.book(Direction::Negative).contracts();
-    let above = caller.positive;
-    let below = caller.negative;
+    let above = held.positive;
+    let below = held.negative;
     print_quarter(out, quarter, positives, above, negatives, below)
 }
 
-fn show_sheets(caller: Caller) {
+fn show_sheets(held: Taken) {
     let mut out = answer::dotted();
-    let printed = print_sheets(caller, caller.quarter, &mut out);
+    let printed = print_sheets(held, held.quarter, &mut out);
     answer::showed(printed, &out);
 }
 
-fn take(caller: Caller, at: u64) -> Caller {
-    let run = caller.run;
+fn take(held: Taken, at: u64) -> Taken {
+    let run = held.run;
     let answer = run.take();
     let refused = answer.refusal;
     answer::answered(at, refused.number());
-    let after = holding(answer);
-    show_sheets(after);
-    after
+    show_sheets(answer);
+    answer
 }
 
-fn end(mut caller: Caller, at: u64) -> Caller {
-    let run = caller.run;
+fn end(mut held: Taken, at: u64) -> Taken {
+    let run = held.run;
     let answer = run.end();
     let refused = answer.refusal;
     answer::answered(at, refused.number());
@@ -171,16 +153,16 @@ fn end(mut caller: Caller, at: u64) -> Caller {
     let printed = print_total(&mut out, answer.quarters, answer.fees, answer.penalties);
     answer::showed(printed, &out);
     let after = answer.run;
-    caller.run = after;
-    caller
+    held.run = after;
+    held
 }
 
 fn contracts_of(run: Run, direction: Direction) -> u64 {
     run.book(direction).count() as u64
 }
 
-fn heading(caller: Caller, at: u64) {
-    let run = caller.run;
+fn heading(held: Taken, at: u64) {
+    let run = held.run;
     answer::begun(at, 0);
     answer::also(contracts_of(run, Direction::Positive));
     answer::also(contracts_of(run, Direction::Negative));
@@ -197,7 +179,7 @@ fn show_head(run: Run) {
 }
 
 // The printing call of a line.
-fn printed(caller: Caller, line: &[u8], out: &mut [u8]) -> Printed {
+fn printed(held: Taken, line: &[u8], out: &mut [u8]) -> Printed {
     match script::letter(line, 0) {
         b'V' => print_head(
             out,
@@ -205,7 +187,7 @@ fn printed(caller: Caller, line: &[u8], out: &mut [u8]) -> Printed {
             script::interval(line, 6),
             script::count(line, 7, 4_294_967_295) as u32,
         ),
-        b'Q' => print_sheets(caller, script::byte(line, 3), out),
+        b'Q' => print_sheets(held, script::byte(line, 3), out),
         b'T' => print_total(
             out,
             script::byte(line, 3),
@@ -221,32 +203,32 @@ fn printed(caller: Caller, line: &[u8], out: &mut [u8]) -> Printed {
 }
 
 // A printing call, and the whole buffer that it was lent.
-fn print_into(caller: Caller, at: u64, line: &[u8], lent: &mut [u8]) {
-    let printed = printed(caller, line, lent);
+fn print_into(held: Taken, at: u64, line: &[u8], lent: &mut [u8]) {
+    let printed = printed(held, line, lent);
     answer::showed_whole(at, printed, lent);
 }
 
 // The text is printed where it has room first: its length may decide how much is lent.
-fn print(caller: Caller, at: u64, line: &[u8]) {
+fn print(held: Taken, at: u64, line: &[u8]) {
     let mut whole = answer::dotted();
-    let text = answer::length_of(printed(caller, line, &mut whole));
+    let text = answer::length_of(printed(held, line, &mut whole));
     let n = script::lent(line, text);
     let mut buf = answer::dotted();
-    print_into(caller, at, line, &mut buf[..n]);
+    print_into(held, at, line, &mut buf[..n]);
 }
 
 // The call of a line, which is the `at`-th of the script.
-fn called(caller: Caller, at: u64, line: &[u8]) -> Caller {
+fn called(held: Taken, at: u64, line: &[u8]) -> Taken {
     match script::letter(line, 0) {
         b'O' => return open(at, line),
-        b'C' => return contract(caller, at, line),
-        b'S' => return samples(caller, at, line),
-        b'K' => return take(caller, at),
-        b'E' => return end(caller, at),
-        b'H' => heading(caller, at),
-        _ => print(caller, at, line),
+        b'C' => return contract(held, at, line),
+        b'S' => return samples(held, at, line),
+        b'K' => return take(held, at),
+        b'E' => return end(held, at),
+        b'H' => heading(held, at),
+        _ => print(held, at, line),
     }
-    caller
+    held
 }
 
 // Where the line that begins at `from` ends.
@@ -266,18 +248,18 @@ fn line_end(script: &[u8], from: usize) -> usize
 }
 
 // Before the first opening the run is what a refused one gives.
-fn at_first() -> Caller {
-    holding(opened(b"").run.take())
+fn at_first() -> Taken {
+    opened(b"").run.take()
 }
 
 fn play(script: &[u8]) {
-    let mut caller = at_first();
+    let mut held = at_first();
     let mut at: u64 = 0;
     let mut from = 0;
     while from < script.len() {
         let to = line_end(script, from);
         at = std::num::wrapping_add_u64(at, 1);
-        caller = called(caller, at, &script[from..to]);
+        held = called(held, at, &script[from..to]);
         from = to + 1;
     }
 }

@@ -7,10 +7,10 @@ use Rattle.calls.proofs.play.Statement.{statement}
 use Rattle.calls.proofs.play.Tie as tie
 
 abbrev Inv-loop : tie.InvT-loop
-Inv-loop script caller₀ at₀ from₀ caller at from = from ≤ length script + 1
+Inv-loop script held₀ at₀ from₀ held at from = from ≤ length script + 1
 
 abbrev μ-loop : tie.MeasureT-loop
-μ-loop script caller₀ at₀ from₀ caller at from = length script + 1 - from
+μ-loop script held₀ at₀ from₀ held at from = length script + 1 - from
 
 at-first-requires : tie.Need-at-first-requires Inv-loop μ-loop
 at-first-requires c κs = search needs
