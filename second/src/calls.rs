@@ -136,7 +136,12 @@ impl Caller {
             number: self.so_far().quarter_hours,
             ..QuarterHour::default()
         });
-        self.answers += &self.quarter_text(&self.quarter);
+        let lists = self.lists();
+        sheet::written(sheet::print_quarter_hour(
+            &mut self.answers,
+            &lists,
+            &self.quarter,
+        ));
     }
 
     /// A refusal has what was taken so far.
@@ -196,23 +201,15 @@ impl Caller {
         sheet::written(match printing {
             Printing::Heading(heading) => sheet::print_heading(&mut text, &heading),
             Printing::QuarterHour(number) => {
-                let number = i32::from(number);
-                let settlements = self.quarter.settlements.clone();
                 let quarter = QuarterHour {
-                    number,
-                    settlements,
+                    number: i32::from(number),
+                    ..self.quarter.clone()
                 };
-                return self.quarter_text(&quarter);
+                sheet::print_quarter_hour(&mut text, &self.lists(), &quarter)
             }
             Printing::Total(total) => sheet::print_total(&mut text, &total),
             Printing::Refusal(line, number) => sheet::print_refusal(&mut text, line, number),
         });
-        text
-    }
-
-    fn quarter_text(&self, quarter: &QuarterHour) -> String {
-        let mut text = String::new();
-        sheet::written(sheet::print_quarter_hour(&mut text, &self.lists(), quarter));
         text
     }
 }
