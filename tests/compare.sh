@@ -1,19 +1,24 @@
 #!/bin/bash
-# Runs the second settling program and another one on generated inputs and
-# says how many of the sheets agree byte for byte.
+# Runs the second program and another one on what `generate` writes, and says how many of the answers agree byte for byte and how often each
+# refusal was given.
 #
-#   compare.sh COMMAND COUNT [FIRST_SEED]
+#   compare.sh COMMAND COUNT [FIRST_SEED]          inputs of the settling program
+#   compare.sh calls COMMAND COUNT [FIRST_SEED]    scripts of library calls
 #
-# COMMAND reads an input on standard input and prints a sheet; it may have
-# arguments and is given in quotes. The seeds run from FIRST_SEED (1) on. Inputs
-# on which the two differ are kept in the folder named by DIFFERING (differing,
-# in the folder the script is called in) with both sheets beside them. A command
-# that is ended by a signal, or runs for more than a minute, counts as differing.
+# COMMAND reads an input on standard input and prints a sheet, or reads a script and prints what the calls answer; it may have arguments and is
+# given in quotes. The seeds run from FIRST_SEED (1) on. What the two differ on is kept in the folder named by DIFFERING (differing, in the folder
+# the script is called in) with both answers beside it. A command that is ended by a signal, or runs for more than a minute, counts as differing.
 # The exit status is 0 if all agree, 1 if any differ, 2 if nothing could be run.
 set -u
 
+# Both programs take the same word for what is compared: none for inputs.
+words=()
+if [ "${1:-}" = calls ]; then
+    words=(calls)
+    shift
+fi
 if [ $# -lt 2 ] || [ $# -gt 3 ]; then
-    echo "usage: compare.sh COMMAND COUNT [FIRST_SEED]" >&2
+    echo "usage: compare.sh [calls] COMMAND COUNT [FIRST_SEED]" >&2
     exit 2
 fi
 command=$1
@@ -37,9 +42,23 @@ generate=$(target "$here/generate" generate)
 work=$(mktemp -d) || exit 2
 trap 'rm -rf "$work"' EXIT
 
+# The examples, each with its listing beside it, and the numbers of the refusals in an answer, 0 where nothing was refused: an input has one at its end, a script
+# one in the first line of each call's answer, which begins with the number of the script's line.
+if [ ${#words[@]} -eq 0 ]; then
+    examples=("$here"/../examples/*.txt)
+    listing() { echo "${1%.txt}.sheet"; }
+    accepted="settled to the end"
+    refusals() { tail -n 1 "$1" | sed 's/^R\t.*\t//; t; s/.*/0/'; }
+else
+    examples=("$here/../crates/calls/stdin")
+    listing() { echo "${1%stdin}stdout"; }
+    accepted="calls accepted"
+    refusals() { sed -n 's/^[0-9]*\t\([0-9]*\).*/\1/p' "$1"; }
+fi
+
 # Runs both programs on $work/input and tells whether they agree.
 agree() {
-    "$second" <"$work/input" >"$work/second" || return 1
+    "$second" "${words[@]}" <"$work/input" >"$work/second" || return 1
     timeout 60 bash -c "$command" <"$work/input" >"$work/other" 2>"$work/messages"
     local status=$?
     [ "$status" -lt 124 ] && cmp -s "$work/second" "$work/other"
@@ -54,40 +73,40 @@ keep_input() {
 
 differ=0
 
-# The example of the scope comes first: both have to print its listing.
-cp "$here/../examples/example.txt" "$work/input"
-if ! agree || ! cmp -s "$work/second" "$here/../examples/example.sheet"; then
-    echo "the example's sheets differ from its listing"
-    differ=$((differ + 1))
-    keep_input example
-fi
+# The examples come first: both have to print their listings.
+for example in "${examples[@]}"; do
+    cp "$example" "$work/input"
+    if ! agree || ! cmp -s "$work/second" "$(listing "$example")"; then
+        echo "the answers to $(basename "$example") differ from its listing"
+        differ=$((differ + 1))
+        keep_input "$(basename "$example" .txt)"
+    fi
+done
 
-declare -A reached
 for ((done = 1; done <= count; done++)); do
     seed=$((first + done - 1))
-    "$generate" "$seed" >"$work/input" || exit 2
+    "$generate" "${words[@]}" "$seed" >"$work/input" || exit 2
     if ! agree; then
         differ=$((differ + 1))
         keep_input "$seed"
     fi
-    last=$(tail -n 1 "$work/second")
-    case $last in
-    R*) number=${last##*$'\t'} ;;
-    *) number=0 ;;
-    esac
-    reached[$number]=$((${reached[$number]:-0} + 1))
+    refusals "$work/second" >>"$work/refusals"
     if ((done % 100 == 0)); then
         echo "$done of $count: $differ differ"
     fi
 done
 
-total=$((count + 1))
-echo "$((total - differ)) of $total agree: the example and seeds $first to $((first + count - 1))"
-echo "settled to the end: ${reached[0]:-0}"
-for number in {1..15}; do
+total=$((count + ${#examples[@]}))
+echo "$((total - differ)) of $total agree: the examples and seeds $first to $((first + count - 1))"
+declare -A reached
+while read -r times number; do
+    reached[$number]=$times
+done < <(sort "$work/refusals" | uniq -c)
+echo "$accepted: ${reached[0]:-0}"
+for number in {1..16}; do
     echo "refusal $number: ${reached[$number]:-0}"
 done
 if ((differ > 0)); then
-    echo "inputs that differ are in $keep"
+    echo "what differs is in $keep"
     exit 1
 fi

@@ -35,7 +35,15 @@ impl Date {
 
 impl fmt::Display for Date {
     fn fmt(&self, f: &mut fmt::Formatter<'_>) -> fmt::Result {
-        write!(f, "{:04}-{:02}-{:02}", self.year, self.month, self.day)
+        let Date { year, month, day } = self;
+        // Always ten bytes: of a number with more digits the last ones.
+        write!(
+            f,
+            "{:04}-{:02}-{:02}",
+            year % 10_000,
+            month % 100,
+            day % 100
+        )
     }
 }
 
@@ -78,5 +86,11 @@ mod tests {
             day: 9,
         };
         assert_eq!(date.to_string(), "2005-03-09");
+        let date = Date {
+            year: 65_535,
+            month: 255,
+            day: 100,
+        };
+        assert_eq!(date.to_string(), "5535-55-00");
     }
 }

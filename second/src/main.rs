@@ -1,8 +1,10 @@
 //! Settles the secondary control energy of one pool: reads a text on standard
-//! input and prints the settlement sheet. With the argument `channel` it prints
-//! the figures the channel is checked by instead.
+//! input and prints the settlement sheet. With the argument `calls` it reads a
+//! script of library calls instead and prints what they answer; with `channel`
+//! it prints the figures the channel is checked by.
 
 mod amounts;
+mod calls;
 mod channel;
 mod date;
 mod run;
@@ -21,9 +23,10 @@ fn main() -> ExitCode {
     let arguments: Vec<_> = env::args_os().skip(1).collect();
     let printed = match arguments.as_slice() {
         [] => read_input().map(|input| settled(&input)),
+        [mode] if mode == "calls" => read_input().and_then(|script| calls::answers(&script)),
         [mode] if mode == "channel" => Ok(channel_figures()),
         _ => {
-            complain("usage: second < input, or second channel");
+            complain("usage: second < input, second calls < script, or second channel");
             return ExitCode::from(2);
         }
     };
@@ -73,14 +76,9 @@ fn settled(input: &[u8]) -> String {
     refused(sheet, complete_lines + 1, Refusal::NoEndLine)
 }
 
-fn refused(mut sheet: String, line: usize, refusal: Refusal) -> String {
-    written(sheet::print_refusal(&mut sheet, line, refusal));
+fn refused(mut sheet: String, line: u64, refusal: Refusal) -> String {
+    sheet::written(sheet::print_refusal(&mut sheet, line, refusal.number()));
     sheet
-}
-
-/// Writing into a string cannot fail.
-fn written(result: std::fmt::Result) {
-    result.expect("a string takes all that is written to it");
 }
 
 /// What is to be read after a line that was taken.
@@ -99,7 +97,7 @@ fn take_line(line: &[u8], run: &mut Option<Run>, sheet: &mut String) -> Result<N
             return Err(Refusal::WrongMoment);
         };
         let opened = Run::open(header)?;
-        written(sheet::print_opening(sheet, &opened));
+        sheet::written(sheet::print_heading(sheet, &opened.heading()));
         *run = Some(opened);
         return Ok(Next::Line);
     };
@@ -113,12 +111,12 @@ fn take_line(line: &[u8], run: &mut Option<Run>, sheet: &mut String) -> Result<N
             run.add_sample(sample)?;
             if run.quarter_hour_waits() {
                 let quarter = run.take_quarter_hour()?;
-                written(sheet::print_quarter_hour(sheet, run, &quarter));
+                sheet::written(sheet::print_quarter_hour(sheet, run.lists(), &quarter));
             }
             Ok(Next::Line)
         }
         Line::End => {
-            written(sheet::print_total(sheet, &run.end()?));
+            sheet::written(sheet::print_total(sheet, &run.end()?));
             Ok(Next::Nothing)
         }
     }

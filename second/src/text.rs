@@ -73,7 +73,7 @@ pub fn read_line(line: &[u8]) -> Option<Line<'_>> {
 }
 
 /// The remaining fields of a line, if there are as many as there should be.
-fn exactly<'a, const COUNT: usize>(
+pub fn exactly<'a, const COUNT: usize>(
     mut fields: impl Iterator<Item = &'a [u8]>,
 ) -> Option<[&'a [u8]; COUNT]> {
     let mut read: [&[u8]; COUNT] = [b""; COUNT];
@@ -86,7 +86,7 @@ fn exactly<'a, const COUNT: usize>(
     }
 }
 
-fn read_direction(field: &[u8]) -> Option<Direction> {
+pub fn read_direction(field: &[u8]) -> Option<Direction> {
     match field {
         b"P" => Some(Direction::Positive),
         b"N" => Some(Direction::Negative),

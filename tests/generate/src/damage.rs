@@ -242,7 +242,8 @@ fn odd_date(random: &mut Random) -> Vec<u8> {
     }
 }
 
-fn spoil_contract(random: &mut Random, known: &[Contract], contract: &mut Contract) {
+/// Spoils some values of a contract.
+pub fn spoil_contract(random: &mut Random, known: &[Contract], contract: &mut Contract) {
     let [form, presence, award, price] = chosen(random);
     if form {
         contract.identifier = match random.below(4) {

@@ -1,7 +1,9 @@
 //! Writes test inputs for the settling program: `generate SEED` one input that
 //! is the same for the same seed, sound or damaged about as often; `generate
-//! day INTERVAL CONTRACTS` one whole day.
+//! day INTERVAL CONTRACTS` one whole day. `generate calls SEED` writes a script of
+//! library calls.
 
+mod calls;
 mod curves;
 mod damage;
 mod day;
@@ -18,15 +20,13 @@ use random::Random;
 fn main() -> ExitCode {
     let arguments: Vec<String> = env::args().skip(1).collect();
     let text = match arguments.as_slice() {
-        [mode, interval, contracts] if mode == "day" => match day_of(interval, contracts) {
-            Some(text) => text,
-            None => return usage(),
-        },
-        [seed] => match seed.parse() {
-            Ok(seed) => input(seed),
-            Err(_) => return usage(),
-        },
-        _ => return usage(),
+        [mode, interval, contracts] if mode == "day" => day_of(interval, contracts),
+        [mode, seed] if mode == "calls" => seed.parse().ok().map(calls::script),
+        [seed] => seed.parse().ok().map(input),
+        _ => None,
+    };
+    let Some(text) = text else {
+        return usage();
     };
     match io::stdout().lock().write_all(&text) {
         Ok(()) => ExitCode::SUCCESS,
@@ -37,7 +37,7 @@ fn main() -> ExitCode {
 fn usage() -> ExitCode {
     let _ = writeln!(
         io::stderr(),
-        "usage: generate SEED, or generate day INTERVAL CONTRACTS"
+        "usage: generate SEED, generate calls SEED, or generate day INTERVAL CONTRACTS"
     );
     ExitCode::from(2)
 }

@@ -7,7 +7,7 @@ pub const LARGEST_POWER: i64 = 2_000_000;
 pub const LARGEST_PRICE: i64 = 9_999_999;
 const IDENTIFIER_BYTES: &[u8] = b"ABCDEFGHIJKLMNOPQRSTUVWXYZabcdefghijklmnopqrstuvwxyz0123456789-";
 
-#[derive(Clone)]
+#[derive(Clone, PartialEq, Eq)]
 pub struct Header {
     pub date: Vec<u8>,
     pub interval: i64,
