@@ -8,7 +8,7 @@ use lib.ListN.{length, take, drop, set, getD}
 use lib.Seq.{getD-take, length-take-le}
 use Rattle.series.specs.Scan.{outputs, each}
 use Rattle.series.proofs.Scanned.{Scanned, scanned-more, scanned-all}
-use Rattle.quarter.specs.Blank.{noParts, noPowers, noLimits, noEnergies, noClaims, noLines}
+use Rattle.quarter.specs.Blank.{noSamples, noPowers, noLimits, noEnergies, noClaims, noLines}
 
 module _ {S X Y : Type 0} (step : S → X → S) (out : S → X → Y) (s : S) (l : List X) (count : ℕ) (blank : List Y) (enough : count ≤ length l) where
   pub first-more : (t : S) (m : List Y) (k : ℕ) (d : X) → count ≤ length blank → k < count
@@ -41,9 +41,9 @@ pub claims-32 : length noClaims ≡ 32
 unfolding noClaims
 claims-32 = refl
 
-pub parts-900 : length noParts ≡ 900
-unfolding noParts
-parts-900 = refl
+pub samples-900 : length noSamples ≡ 900
+unfolding noSamples
+samples-900 = refl
 
 pub powers-900 : length noPowers ≡ 900
 unfolding noPowers

@@ -19,7 +19,7 @@ use Rattle.values.specs.declared.value.Quantity.{Quantity}
 use Rattle.values.specs.Part.{amountOf}
 use Rattle.values.proofs.Written.{written}
 use Rattle.quarter.specs.Powers.{Samples, next, powerAt, powersOf}
-use Rattle.quarter.specs.Sides.{partAt, powersIn}
+use Rattle.quarter.specs.Sides.{partAt, powerIn, powersIn}
 use Rattle.quarter.specs.Blank.{noPowers}
 use Rattle.quarter.specs.Room.{Timely, Filled, Small}
 use Rattle.quarter.specs.declared.side.Side.{Side}
@@ -68,22 +68,22 @@ module _ (powers r : List ℕ) (n : ℕ) (count : length powers ≡ n) where
 
 -- those of a side are as many as its samples
 module _ (x : Side) (t : Timely x) where
-  pub parts-count : length (take (x .samples) (x .parts)) ≡ x .samples
-  parts-count = length-take-le (x .samples) (x .parts) (omega (arith, t))
+  pub samples-count : length (take (x .count) (x .samples)) ≡ x .count
+  samples-count = length-take-le (x .count) (x .samples) (omega (arith, t))
 
   module _ (q : Quantity) (r : List ℕ) where
-    powers-count : length (powersIn x q) ≡ x .samples
-    powers-count = each-length (amountOf q) (take (x .samples) (x .parts)) ∙ parts-count
+    powers-count : length (powersIn x q) ≡ x .count
+    powers-count = each-length (powerIn (x .direction) q) (take (x .count) (x .samples)) ∙ samples-count
 
-    pub filled : r ≡ powersIn x q ++ drop (x .samples) noPowers → sumOf (take (x .samples) r) ≤ x .samples * 2 ^ 44 → Filled (powersIn x q) r
-    filled e b = fill (powersIn x q) r (x .samples) powers-count e b
+    pub filled : r ≡ powersIn x q ++ drop (x .count) noPowers → sumOf (take (x .count) r) ≤ x .count * 2 ^ 44 → Filled (powersIn x q) r
+    filled e b = fill (powersIn x q) r (x .count) powers-count e b
 
     module _ (f : Filled (powersIn x q) r) where
-      pub front : take (x .samples) r ≡ powersIn x q
-      front = ahead (powersIn x q) r (x .samples) powers-count f
+      pub front : take (x .count) r ≡ powersIn x q
+      front = ahead (powersIn x q) r (x .count) powers-count f
 
-      pub front-length : x .samples ≡ length (take (x .samples) r)
+      pub front-length : x .count ≡ length (take (x .count) r)
       front-length = sym (ap length front ∙ powers-count)
 
       pub small : Small (x .seconds) (powersIn x q)
-      small = few-enough (powersIn x q) r (x .samples) powers-count (x .seconds) (t .few) (t .quarter) f
+      small = few-enough (powersIn x q) r (x .count) powers-count (x .seconds) (t .few) (t .quarter) f

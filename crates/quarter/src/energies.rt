@@ -26,7 +26,7 @@ impl Side {
         requires { ⌜ Timely self ⌝ }
         ensures { λ r. ⌜ r ≡ poolEnergy (self .seconds) (powersIn self quantity) ⌝ }
     {
-        let n = self.samples;
+        let n = self.count;
         let all = self.powers(quantity);
         between(&all[..n], 0, 18_446_744_073_709_551_615, self.seconds)
     }
@@ -36,7 +36,7 @@ impl Side {
         requires { ⌜ (count ≤ 32) × Timely self ⌝ }
         ensures { λ r. ⌜ r ≡ each (sliceEnergy (self .seconds) (powersIn self quantity)) (cutsOf (take count limits)) ++ drop count noEnergies ⌝ }
     {
-        let n = self.samples;
+        let n = self.count;
         let all = self.powers(quantity);
         slices(&all[..n], limits, count, self.seconds)
     }
@@ -46,7 +46,7 @@ impl Side {
         requires { ⌜ (count ≤ 32) × Timely self ⌝ }
         ensures { λ r. ⌜ r ≡ each (lackEnergy (self .seconds) (powersIn self Inner) (powersIn self Covered)) (cutsOf (take count limits)) ++ drop count noEnergies ⌝ }
     {
-        let n = self.samples;
+        let n = self.count;
         let inner = self.powers(Quantity::Inner);
         let covered = self.powers(Quantity::Covered);
         lacks(&inner[..n], &covered[..n], limits, count, self.seconds)

@@ -5,6 +5,7 @@ use crate::sheet::Line;
 use crate::sheet::Pool;
 use crate::sheet::Sheet;
 use crate::sheet::Terms;
+use crate::side::Sample;
 use crate::side::Side;
 use crate::side::follow;
 use crate::terms::held;
@@ -13,7 +14,7 @@ use arithmetic::energy::Kwh;
 use channel::Channel;
 use channel::interval::Windows;
 use contracts::book::Book;
-use values::part::Part;
+use values::direction::Direction;
 use values::value::Quantity;
 ghost use mathlib.Core.Path.{_≡_};
 ghost use Prim.Native.Nat.{_≤_};
@@ -70,14 +71,16 @@ fn sheet(side: Side, terms: [Terms; 32], count: usize) -> Sheet
 }
 
 // The same, for the contracts of a list.
-fn listed(parts: [Part; 900], windows: Windows, book: Book) -> Sheet
-    requires { ⌜ Timely (sideOf parts windows) ⌝ }
-    ensures { λ r. ⌜ r ≡ sheetIn (sideOf parts windows) (termsIn book) ⌝ }
+fn listed(direction: Direction, samples: [Sample; 900], windows: Windows, book: Book) -> Sheet
+    requires { ⌜ Timely (sideOf direction samples windows) ⌝ }
+    ensures { λ r. ⌜ r ≡ sheetIn (sideOf direction samples windows) (termsIn book) ⌝ }
 {
+    let seconds = windows.seconds as u64;
     let side = Side {
-        parts: parts,
-        samples: windows.samples,
-        seconds: windows.seconds as u64,
+        direction: direction,
+        samples: samples,
+        count: windows.samples,
+        seconds: seconds,
     };
     sheet(side, terms(book.contracts()), held(book))
 }
@@ -103,15 +106,14 @@ pub fn quarter_hour(
 {
     let interval = channel.interval();
     let windows = interval.windows();
-    let seen = follow(channel.sized(), setpoints, actuals, windows.samples);
-    let after = seen.channel;
-    let above = seen.positive;
-    let below = seen.negative;
-    let positive_sheet = listed(above, windows, positive);
-    let negative_sheet = listed(below, windows, negative);
+    let followed = follow(channel.sized(), setpoints, actuals, windows.samples);
+    let after = followed.channel;
+    let samples = followed.samples;
+    let above = listed(Direction::Positive, samples, windows, positive);
+    let below = listed(Direction::Negative, samples, windows, negative);
     Settled {
         channel: after,
-        positive: positive_sheet,
-        negative: negative_sheet,
+        positive: above,
+        negative: below,
     }
 }

@@ -3,7 +3,6 @@
 use native.Mathlib.Omega.{arith}
 use Rattle.values.specs.declared.direction.Direction.the-variants.{Positive, Negative}
 use Rattle.quarter.specs.Quarter.{quarterHeld, samplesOf, termsIn}
-use Rattle.quarter.specs.Sides.{seenOf}
 use Rattle.quarter.proofs.Quarters.{samples-few}
 use Rattle.quarter.proofs.SideLaws.{both, timely}
 use Rattle.quarter.proofs.hour.quarter_hour.Statement.{statement}
@@ -22,33 +21,31 @@ follow-requires : tie.Need-follow-requires
 follow-requires c κs = rw (c .before .windows .ensures, c .before .before .interval .ensures) (samples-few (c .before .before .before .args .channel .interval))
 
 listed-requires : tie.Need-listed-requires
-unfolding seenOf
 listed-requires c κs =
+    let f = c .before .before in
+    let w = f .before .before in
+    let i = w .before in
+    let a = i .before .args in
+    let e = rw (f .before .sized .ensures .0, w .windows .ensures, i .interval .ensures) at (f .follow .ensures) in
+    rw
+    (w .windows .ensures, i .interval .ensures, e .0)
+    (timely (a .channel) (a .channel .interval) (a .setpoints) (a .actuals) (omega (arith, i .before .good)) (f .before .sized .ensures .1) (e .1) Positive)
+
+listed-requires-2 : tie.Need-listed-requires-2
+listed-requires-2 c κs =
     let f = c .before .before .before in
     let w = f .before .before in
     let i = w .before in
     let a = i .before .args in
     let e = rw (f .before .sized .ensures .0, w .windows .ensures, i .interval .ensures) at (f .follow .ensures) in
     rw
-    (w .windows .ensures, i .interval .ensures)
-    (timely (a .channel) (a .channel .interval) (a .setpoints) (a .actuals) (omega (arith, i .before .good)) (f .before .sized .ensures .1) (e .1) Positive (f .follow .result .positive) (rw (e .0)))
-
-listed-requires-2 : tie.Need-listed-requires-2
-unfolding seenOf
-listed-requires-2 c κs =
-    let f = c .before .before .before .before in
-    let w = f .before .before in
-    let i = w .before in
-    let a = i .before .args in
-    let e = rw (f .before .sized .ensures .0, w .windows .ensures, i .interval .ensures) at (f .follow .ensures) in
-    rw
-    (w .windows .ensures, i .interval .ensures)
-    (timely (a .channel) (a .channel .interval) (a .setpoints) (a .actuals) (omega (arith, i .before .good)) (f .before .sized .ensures .1) (e .1) Negative (f .follow .result .negative) (rw (e .0)))
+    (w .windows .ensures, i .interval .ensures, e .0)
+    (timely (a .channel) (a .channel .interval) (a .setpoints) (a .actuals) (omega (arith, i .before .good)) (f .before .sized .ensures .1) (e .1) Negative)
 
 returns : tie.Need-returns
 unfolding quarterHeld samplesOf
 returns c =
-    let f = c .before .before .before .before .before in
+    let f = c .before .before .before .before in
     let w = f .before .before in
     let i = w .before in
     let a = i .before .args in
