@@ -6,6 +6,7 @@ pub mod Columns
 pub mod Adding
 pub mod Shared
 pub mod Following
+pub mod SideLaws
 pub mod History
 pub mod Cap
 pub mod Prefix

@@ -8,23 +8,21 @@ use native.Mathlib.Numerals.{add-one}
 use native.Mathlib.Nat.{mul-le-mul-left, mul-le-mul-right, mul-assoc}
 use lib.IntN.{ℤ, pos}
 use lib.ListN.{length, take, drop, set, getD}
-use lib.Seq.{take-suc-set, take-at}
+use lib.Seq.{take-suc-set, take-at, length-take-le}
 use Rattle.arithmetic.specs.Whole.{up}
 use Rattle.arithmetic.proofs.Signed.{up-pos}
 use Rattle.series.specs.Scan.{outputs}
 use Rattle.series.specs.Sums.{overOf, sumOf}
+use Rattle.series.proofs.Scanned.{each-length}
 use Rattle.values.specs.declared.direction.Direction.{Direction}
 use Rattle.values.specs.declared.value.Quantity.{Quantity}
-use Rattle.values.specs.declared.part.Part.{Part}
-use Rattle.values.specs.Part.{partOf, amountOf}
+use Rattle.values.specs.Part.{amountOf}
 use Rattle.values.proofs.Written.{written}
 use Rattle.quarter.specs.Powers.{Samples, next, powerAt, powersOf}
+use Rattle.quarter.specs.Sides.{partAt, powerIn, powersIn}
 use Rattle.quarter.specs.Blank.{noPowers}
-use Rattle.quarter.specs.Room.{Filled, Small}
-
--- the part of a sample that a direction sees
-abbrev pub partAt : Direction → Samples → ℕ → ℤ → Part
-partAt d x i s = partOf d s (getD (x .actuals) i (pos 0)) (getD (x .ogas) i (pos 0)) (getD (x .ugas) i (pos 0))
+use Rattle.quarter.specs.Room.{Timely, Filled, Small}
+use Rattle.quarter.specs.declared.side.Side.{Side}
 
 pub power-is : (d : Direction) (x : Samples) (q : Quantity) (i : ℕ) (s : ℤ) → powerAt d x q i s ≡ amountOf q (partAt d x i s)
 unfolding powerAt
@@ -50,23 +48,42 @@ sum-more l k v h b e = rw (add-one, take-suc-set l k v h, sum-snoc (take k l) v)
 
 -- an array filled with powers: the powers in front, and that their sums fit
 module _ (powers r : List ℕ) (n : ℕ) (count : length powers ≡ n) where
-  pub filled : r ≡ powers ++ drop n noPowers → sumOf (take n r) ≤ n * 2 ^ 44 → Filled powers r
-  filled e b =
+  fill : r ≡ powers ++ drop n noPowers → sumOf (take n r) ≤ n * 2 ^ 44 → Filled powers r
+  fill e b =
       record {
         are = rw count e;
         small = rw (e, take-at powers (drop n noPowers) n count, ← count) at b;
       }
 
-  pub front : Filled powers r → take n r ≡ powers
-  front f = rw (f .are, count) (take-at powers (drop n noPowers) n count)
+  ahead : Filled powers r → take n r ≡ powers
+  ahead f = rw (f .are, count) (take-at powers (drop n noPowers) n count)
 
-  pub front-length : Filled powers r → n ≡ length (take n r)
-  front-length f = sym (ap length (front f) ∙ count)
-
-  pub small : (seconds : ℕ) → n ≤ 900 → seconds * n ≤ 900 → Filled powers r → Small seconds powers
-  small seconds few quarter f =
+  few-enough : (seconds : ℕ) → n ≤ 900 → seconds * n ≤ 900 → Filled powers r → Small seconds powers
+  few-enough seconds few quarter f =
       let b : sumOf powers ≤ n * 2 ^ 44 = rw (← count) (f .small) in
       record {
         held = omega (arith, mul-le-mul-left seconds b, mul-assoc seconds n (2 ^ 44), mul-le-mul-right (2 ^ 44) quarter);
         plain = omega arith;
       }
+
+-- those of a side are as many as its samples
+module _ (x : Side) (t : Timely x) where
+  pub samples-count : length (take (x .count) (x .samples)) ≡ x .count
+  samples-count = length-take-le (x .count) (x .samples) (omega (arith, t))
+
+  module _ (q : Quantity) (r : List ℕ) where
+    powers-count : length (powersIn x q) ≡ x .count
+    powers-count = each-length (powerIn (x .direction) q) (take (x .count) (x .samples)) ∙ samples-count
+
+    pub filled : r ≡ powersIn x q ++ drop (x .count) noPowers → sumOf (take (x .count) r) ≤ x .count * 2 ^ 44 → Filled (powersIn x q) r
+    filled e b = fill (powersIn x q) r (x .count) powers-count e b
+
+    module _ (f : Filled (powersIn x q) r) where
+      pub front : take (x .count) r ≡ powersIn x q
+      front = ahead (powersIn x q) r (x .count) powers-count f
+
+      pub front-length : x .count ≡ length (take (x .count) r)
+      front-length = sym (ap length front ∙ powers-count)
+
+      pub small : Small (x .seconds) (powersIn x q)
+      small = few-enough (powersIn x q) r (x .count) powers-count (x .seconds) (t .few) (t .quarter) f

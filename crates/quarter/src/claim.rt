@@ -146,16 +146,17 @@ fn claim(setpoint: Kwh, actual: Kwh, acceptance: Kwh, floor: Kwh, shortfall: Kwh
 fn no_claims() -> [Claim; 32]
     ensures { λ r. ⌜ r ≡ noClaims ⌝ }
 {
-    let none = Claim {
-        setpoint: Kwh(0),
-        actual: Kwh(0),
-        acceptance: Kwh(0),
-        shortfall: Kwh(0),
-        under_delivery: Kwh(0),
-        capped: Kwh(0),
-        gap: Kwh(0),
+    let none = Kwh(0);
+    let nothing = Claim {
+        setpoint: none,
+        actual: none,
+        acceptance: none,
+        shortfall: none,
+        under_delivery: none,
+        capped: none,
+        gap: none,
     };
-    [none; 32]
+    [nothing; 32]
 }
 
 // The claims of the contracts, by their energies.

@@ -4,11 +4,10 @@ use crate::claim::claims;
 use crate::claim::lacks;
 use crate::claim::limits;
 use crate::claim::slices;
-use crate::powers::powers;
 use crate::sheet::Claim;
 use crate::sheet::Terms;
+use crate::side::Side;
 use arithmetic::energy::Kwh;
-use values::direction::Direction;
 use values::value::Quantity;
 ghost use mathlib.Core.Path.{_≡_};
 ghost use mathlib.Core.List.{_++_};
@@ -16,137 +15,54 @@ ghost use Prim.Native.Nat.{_≤_};
 ghost use lib.ListN.{take, drop};
 ghost use Rattle.series.specs.Scan.{each};
 ghost use Rattle.values.specs.declared.value.Quantity.the-variants.{Inner, Covered};
-ghost use Rattle.quarter.specs.Powers.{samples, powersOf};
+ghost use Rattle.quarter.specs.Sides.{powersIn};
 ghost use Rattle.quarter.specs.Quarter.{cutsOf, sliceEnergy, lackEnergy, poolEnergy, claimsOf};
 ghost use Rattle.quarter.specs.Blank.{noEnergies, noClaims};
 ghost use Rattle.quarter.specs.Room.{Timely};
 
-// The pool's energy of a quantity: all that lies above 0.
-pub(crate) fn pool_energy(
-    quantity: Quantity,
-    direction: Direction,
-    setpoints: &[i32],
-    actuals: &[i32],
-    ogas: &[i64],
-    ugas: &[i64],
-    seconds: u64,
-) -> Kwh
-    requires { ⌜ Timely seconds (samples (now setpoints) (now actuals) (now ogas) (now ugas)) ⌝ }
-    ensures { λ r. ⌜ r ≡ poolEnergy seconds (powersOf direction (samples (now (setpoints .entry)) (now (actuals .entry)) (now (ogas .entry)) (now (ugas .entry))) quantity) ⌝ }
-{
-    let n = setpoints.len();
-    let all = powers(quantity, direction, setpoints, actuals, ogas, ugas);
-    between(&all[..n], 0, 18_446_744_073_709_551_615, seconds)
-}
+impl Side {
+    // The pool's energy of a quantity: all that lies above 0.
+    pub(crate) fn energy(self, quantity: Quantity) -> Kwh
+        requires { ⌜ Timely self ⌝ }
+        ensures { λ r. ⌜ r ≡ poolEnergy (self .seconds) (powersIn self quantity) ⌝ }
+    {
+        let n = self.count;
+        let all = self.powers(quantity);
+        between(&all[..n], 0, 18_446_744_073_709_551_615, self.seconds)
+    }
 
-// Each contract's energy of a quantity, by its slice.
-fn slice_energies(
-    quantity: Quantity,
-    direction: Direction,
-    setpoints: &[i32],
-    actuals: &[i32],
-    ogas: &[i64],
-    ugas: &[i64],
-    limits: [u64; 32],
-    count: usize,
-    seconds: u64,
-) -> [Kwh; 32]
-    requires { ⌜ (count ≤ 32) × Timely seconds (samples (now setpoints) (now actuals) (now ogas) (now ugas)) ⌝ }
-    ensures { λ r. ⌜ r ≡ each (sliceEnergy seconds (powersOf direction (samples (now (setpoints .entry)) (now (actuals .entry)) (now (ogas .entry)) (now (ugas .entry))) quantity)) (cutsOf (take count limits)) ++ drop count noEnergies ⌝ }
-{
-    let n = setpoints.len();
-    let all = powers(quantity, direction, setpoints, actuals, ogas, ugas);
-    slices(&all[..n], limits, count, seconds)
-}
+    // Each contract's energy of a quantity, by its slice.
+    fn sliced(self, quantity: Quantity, limits: [u64; 32], count: usize) -> [Kwh; 32]
+        requires { ⌜ (count ≤ 32) × Timely self ⌝ }
+        ensures { λ r. ⌜ r ≡ each (sliceEnergy (self .seconds) (powersIn self quantity)) (cutsOf (take count limits)) ++ drop count noEnergies ⌝ }
+    {
+        let n = self.count;
+        let all = self.powers(quantity);
+        slices(&all[..n], limits, count, self.seconds)
+    }
 
-// Each contract's shortfall: what its slice of the larger of acceptance and tolerance lacks of its slice of the channel's inner bound.
-fn shortfall_energies(
-    direction: Direction,
-    setpoints: &[i32],
-    actuals: &[i32],
-    ogas: &[i64],
-    ugas: &[i64],
-    limits: [u64; 32],
-    count: usize,
-    seconds: u64,
-) -> [Kwh; 32]
-    requires { ⌜ (count ≤ 32) × Timely seconds (samples (now setpoints) (now actuals) (now ogas) (now ugas)) ⌝ }
-    ensures { λ r. ⌜ r ≡ each (lackEnergy seconds (powersOf direction (samples (now (setpoints .entry)) (now (actuals .entry)) (now (ogas .entry)) (now (ugas .entry))) Inner) (powersOf direction (samples (now (setpoints .entry)) (now (actuals .entry)) (now (ogas .entry)) (now (ugas .entry))) Covered)) (cutsOf (take count limits)) ++ drop count noEnergies ⌝ }
-{
-    let n = setpoints.len();
-    let inner = powers(Quantity::Inner, direction, setpoints, actuals, ogas, ugas);
-    let covered = powers(Quantity::Covered, direction, setpoints, actuals, ogas, ugas);
-    lacks(&inner[..n], &covered[..n], limits, count, seconds)
-}
+    // Each contract's shortfall: what its slice of the larger of acceptance and tolerance lacks of its slice of the channel's inner bound.
+    fn short(self, limits: [u64; 32], count: usize) -> [Kwh; 32]
+        requires { ⌜ (count ≤ 32) × Timely self ⌝ }
+        ensures { λ r. ⌜ r ≡ each (lackEnergy (self .seconds) (powersIn self Inner) (powersIn self Covered)) (cutsOf (take count limits)) ++ drop count noEnergies ⌝ }
+    {
+        let n = self.count;
+        let inner = self.powers(Quantity::Inner);
+        let covered = self.powers(Quantity::Covered);
+        lacks(&inner[..n], &covered[..n], limits, count, self.seconds)
+    }
 
-// The claims of a direction's contracts.
-pub(crate) fn claims_of(
-    direction: Direction,
-    setpoints: &[i32],
-    actuals: &[i32],
-    ogas: &[i64],
-    ugas: &[i64],
-    terms: [Terms; 32],
-    count: usize,
-    seconds: u64,
-) -> [Claim; 32]
-    requires { ⌜ (count ≤ 32) × Timely seconds (samples (now setpoints) (now actuals) (now ogas) (now ugas)) ⌝ }
-    ensures { λ r. ⌜ r ≡ claimsOf seconds (powersOf direction (samples (now (setpoints .entry)) (now (actuals .entry)) (now (ogas .entry)) (now (ugas .entry)))) (take count terms) ++ drop count noClaims ⌝ }
-{
-    let upper = limits(terms);
-    let setpoint = slice_energies(
-        Quantity::Setpoint,
-        direction,
-        setpoints,
-        actuals,
-        ogas,
-        ugas,
-        upper,
-        count,
-        seconds,
-    );
-    let actual = slice_energies(
-        Quantity::Actual,
-        direction,
-        setpoints,
-        actuals,
-        ogas,
-        ugas,
-        upper,
-        count,
-        seconds,
-    );
-    let acceptance = slice_energies(
-        Quantity::Acceptance,
-        direction,
-        setpoints,
-        actuals,
-        ogas,
-        ugas,
-        upper,
-        count,
-        seconds,
-    );
-    let floor = slice_energies(
-        Quantity::Floor,
-        direction,
-        setpoints,
-        actuals,
-        ogas,
-        ugas,
-        upper,
-        count,
-        seconds,
-    );
-    let shortfall = shortfall_energies(
-        direction,
-        setpoints,
-        actuals,
-        ogas,
-        ugas,
-        upper,
-        count,
-        seconds,
-    );
-    claims(setpoint, actual, acceptance, floor, shortfall, count)
+    // The claims of the direction's contracts.
+    pub(crate) fn claims(self, terms: [Terms; 32], count: usize) -> [Claim; 32]
+        requires { ⌜ (count ≤ 32) × Timely self ⌝ }
+        ensures { λ r. ⌜ r ≡ claimsOf (self .seconds) (powersIn self) (take count terms) ++ drop count noClaims ⌝ }
+    {
+        let upper = limits(terms);
+        let setpoint = self.sliced(Quantity::Setpoint, upper, count);
+        let actual = self.sliced(Quantity::Actual, upper, count);
+        let acceptance = self.sliced(Quantity::Acceptance, upper, count);
+        let floor = self.sliced(Quantity::Floor, upper, count);
+        let shortfall = self.short(upper, count);
+        claims(setpoint, actual, acceptance, floor, shortfall, count)
+    }
 }
