@@ -4,7 +4,7 @@ use sheets::Printed;
 ghost use mathlib.Core.Path.{_≡_};
 ghost use lib.ListN.{length};
 
-pub fn write(text: &[u8]) {
+pub(crate) fn write(text: &[u8]) {
     io::write_all(STDOUT_FILENO, text);
 }
 
@@ -13,30 +13,30 @@ fn write_number(n: u64) {
 }
 
 // A further number of the answer's line.
-pub fn also(n: u64) {
+pub(crate) fn also(n: u64) {
     write(b"\t");
     write_number(n);
 }
 
 // The line of an answer as far as every call has it: the line of the script, and the refusal's number.
-pub fn begun(line: u64, refusal: u8) {
+pub(crate) fn begun(line: u64, refusal: u8) {
     write_number(line);
     also(refusal as u64);
 }
 
-pub fn answered(line: u64, refusal: u8) {
+pub(crate) fn answered(line: u64, refusal: u8) {
     begun(line, refusal);
     write(b"\n");
 }
 
 // The longest buffer that is lent, filled so that a byte which a call leaves is told from one which it writes.
-pub fn dotted() -> [u8; 16384]
+pub(crate) fn dotted() -> [u8; 16384]
     ensures { λ r. ⌜ 16384 ≡ length r ⌝ }
 {
     [b'.'; 16384]
 }
 
-pub fn length_of(printed: Printed) -> u64 {
+pub(crate) fn length_of(printed: Printed) -> u64 {
     match printed {
         Printed::Length(n) => n as u64,
         Printed::TooShort => 0,
@@ -44,7 +44,7 @@ pub fn length_of(printed: Printed) -> u64 {
 }
 
 // The text that was printed at the start of a buffer.
-pub fn showed(printed: Printed, out: &[u8]) {
+pub(crate) fn showed(printed: Printed, out: &[u8]) {
     let n = length_of(printed) as usize;
     if n <= out.len() {
         write(&out[..n]);
@@ -52,7 +52,7 @@ pub fn showed(printed: Printed, out: &[u8]) {
 }
 
 // A printing call's answer and the whole buffer that it was lent.
-pub fn showed_whole(line: u64, printed: Printed, lent: &[u8]) {
+pub(crate) fn showed_whole(line: u64, printed: Printed, lent: &[u8]) {
     match printed {
         Printed::Length(n) => {
             begun(line, 0);

@@ -12,7 +12,7 @@ use refusals::Refusal;
 use values::direction::Direction;
 ghost use Prim.Native.Nat.{_≤_};
 
-pub fn letter(line: &[u8], k: usize) -> u8 {
+pub(crate) fn letter(line: &[u8], k: usize) -> u8 {
     let text = field(line, k);
     if text.len() == 0 {
         return 0;
@@ -20,14 +20,14 @@ pub fn letter(line: &[u8], k: usize) -> u8 {
     text[0]
 }
 
-pub fn number(line: &[u8], k: usize) -> i64 {
+pub(crate) fn number(line: &[u8], k: usize) -> i64 {
     let LongNumber::Value(n) = long_number_of(field(line, k), 18) else {
         return 0;
     };
     n
 }
 
-pub fn integer(line: &[u8], k: usize) -> i32 {
+pub(crate) fn integer(line: &[u8], k: usize) -> i32 {
     let n = number(line, k);
     if n < -2_147_483_648 {
         return -2_147_483_648;
@@ -48,18 +48,18 @@ fn at_most(n: u64, most: u64) -> u64
 }
 
 // A number from 0 to `most`.
-pub fn count(line: &[u8], k: usize, most: u64) -> u64
+pub(crate) fn count(line: &[u8], k: usize, most: u64) -> u64
     ensures { λ r. ⌜ r ≤ most ⌝ }
 {
     at_most(positive_part(number(line, k)), most)
 }
 
-pub fn byte(line: &[u8], k: usize) -> u8 {
+pub(crate) fn byte(line: &[u8], k: usize) -> u8 {
     count(line, k, 255) as u8
 }
 
 // Year, month and day, each in a field of its own.
-pub fn date(line: &[u8], k: usize) -> Date
+pub(crate) fn date(line: &[u8], k: usize) -> Date
     requires { ⌜ k ≤ 8 ⌝ }
 {
     Date {
@@ -69,14 +69,14 @@ pub fn date(line: &[u8], k: usize) -> Date
     }
 }
 
-pub fn direction(line: &[u8], k: usize) -> Direction {
+pub(crate) fn direction(line: &[u8], k: usize) -> Direction {
     if letter(line, k) == b'N' {
         return Direction::Negative;
     }
     Direction::Positive
 }
 
-pub fn interval(line: &[u8], k: usize) -> Interval {
+pub(crate) fn interval(line: &[u8], k: usize) -> Interval {
     match count(line, k, 4) {
         1 => Interval::One,
         3 => Interval::Three,
@@ -84,7 +84,7 @@ pub fn interval(line: &[u8], k: usize) -> Interval {
     }
 }
 
-pub fn refusal(line: &[u8], k: usize) -> Refusal {
+pub(crate) fn refusal(line: &[u8], k: usize) -> Refusal {
     match count(line, k, 16) {
         1 => Refusal::WrongMoment,
         2 => Refusal::BadInterval,
@@ -107,7 +107,7 @@ pub fn refusal(line: &[u8], k: usize) -> Refusal {
 }
 
 // How long a buffer a printing call is lent whose text has so many bytes.
-pub fn lent(line: &[u8], text: u64) -> usize
+pub(crate) fn lent(line: &[u8], text: u64) -> usize
     ensures { λ r. ⌜ r ≤ 16384 ⌝ }
 {
     let bytes = number(line, 2);
