@@ -7,7 +7,7 @@ use native.Mathlib.Omega.{arith}
 use native.Mathlib.Numerals.{add-one}
 use native.Mathlib.Nat.{mul-le-mul-left, mul-le-mul-right, mul-assoc}
 use lib.IntN.{ℤ, pos}
-use lib.ListN.{length, take, drop, set, getD}
+use lib.ListN.{length, take, drop, set, getD, length-append}
 use lib.Seq.{take-suc-set, take-at, length-take-le}
 use Rattle.arithmetic.specs.Whole.{up}
 use Rattle.arithmetic.proofs.Signed.{up-pos}
@@ -81,6 +81,10 @@ module _ (x : Side) (t : Timely x) where
     module _ (f : Filled (powersIn x q) r) where
       pub front : take (x .count) r ≡ powersIn x q
       front = ahead (powersIn x q) r (x .count) powers-count f
+
+      pub front-fits : x .count ≤ length r
+      front-fits =
+          rw (f .are, length-append (powersIn x q) (drop (length (powersIn x q)) noPowers)) (omega (arith, powers-count))
 
       pub front-length : x .count ≡ length (take (x .count) r)
       front-length = sym (ap length front ∙ powers-count)

@@ -6,25 +6,16 @@ use arithmetic::energy::energy;
 use series::short;
 use series::sliced;
 ghost use mathlib.Core.Path.{_≡_};
-ghost use mathlib.Core.List.{_++_};
-ghost use Prim.Native.Nat.{_+_, _*_, _-_, _≤_, _<_, _^_};
-ghost use lib.ListN.{take, drop};
-ghost use Rattle.series.specs.Scan.{each};
+ghost use Prim.Native.Nat.{_*_, _-_, _≤_, _^_};
 ghost use Rattle.arithmetic.specs.Whole.{leastOf};
-ghost use Rattle.quarter.specs.Quarter.{cut, limitsOf, cutsOf, sliceEnergy, lackEnergy, claimFrom, claimsAlong};
-ghost use Rattle.quarter.specs.Blank.{kwh, noLimits, noEnergies, noClaims};
+ghost use Rattle.quarter.specs.Quarter.{cut, limitsOf, sliceEnergy, lackEnergy, claimFrom};
+ghost use Rattle.quarter.specs.Blank.{kwh, noLimits, noClaims};
 ghost use Rattle.quarter.specs.Room.{Small};
 
 fn no_limits() -> [u64; 32]
     ensures { λ r. ⌜ r ≡ noLimits ⌝ }
 {
     [0u64; 32]
-}
-
-fn no_energies() -> [Kwh; 32]
-    ensures { λ r. ⌜ r ≡ noEnergies ⌝ }
-{
-    [Kwh(0); 32]
 }
 
 // A contract's award, in units.
@@ -58,51 +49,11 @@ pub(crate) fn between(powers: &[u64], low: u64, high: u64, seconds: u64) -> Kwh
 }
 
 // The energy that one series lacks of another between two limits.
-fn lacking(want: &[u64], got: &[u64], low: u64, high: u64, seconds: u64) -> Kwh
+pub(crate) fn lacking(want: &[u64], got: &[u64], low: u64, high: u64, seconds: u64) -> Kwh
     requires { ⌜ Small seconds (now want) ⌝ }
     ensures { λ r. ⌜ r ≡ lackEnergy seconds (now (want .entry)) (now (got .entry)) (cut low high) ⌝ }
 {
     energy(seconds * short(want, got, low, high))
-}
-
-// The energy of each contract's slice of a series: its lower limit is the upper one of the contract before.
-pub(crate) fn slices(powers: &[u64], limits: [u64; 32], count: usize, seconds: u64) -> [Kwh; 32]
-    requires { ⌜ (count ≤ 32) × Small seconds (now powers) ⌝ }
-    ensures { λ r. ⌜ r ≡ each (sliceEnergy seconds (now (powers .entry))) (cutsOf (take count limits)) ++ drop count noEnergies ⌝ }
-{
-    let mut out = no_energies();
-    let mut low: u64 = 0;
-    let mut k = 0;
-    while k < count {
-        let high = limits[k];
-        out[k] = between(powers, low, high, seconds);
-        low = high;
-        k += 1;
-    }
-    out
-}
-
-// The energy that each contract's slice of one series lacks of that of another, sample by sample.
-pub(crate) fn lacks(
-    want: &[u64],
-    got: &[u64],
-    limits: [u64; 32],
-    count: usize,
-    seconds: u64,
-) -> [Kwh; 32]
-    requires { ⌜ (count ≤ 32) × Small seconds (now want) ⌝ }
-    ensures { λ r. ⌜ r ≡ each (lackEnergy seconds (now (want .entry)) (now (got .entry))) (cutsOf (take count limits)) ++ drop count noEnergies ⌝ }
-{
-    let mut out = no_energies();
-    let mut low: u64 = 0;
-    let mut k = 0;
-    while k < count {
-        let high = limits[k];
-        out[k] = lacking(want, got, low, high, seconds);
-        low = high;
-        k += 1;
-    }
-    out
 }
 
 // What one energy has above another, 0 where it has nothing.
@@ -125,7 +76,13 @@ fn smaller(energy: Kwh, other: Kwh) -> Kwh
 }
 
 // A contract's claim, by its energies. The cap is never below 0, since the tolerance never asks for more than the setpoint.
-fn claim(setpoint: Kwh, actual: Kwh, acceptance: Kwh, floor: Kwh, shortfall: Kwh) -> Claim
+pub(crate) fn claim(
+    setpoint: Kwh,
+    actual: Kwh,
+    acceptance: Kwh,
+    floor: Kwh,
+    shortfall: Kwh,
+) -> Claim
     ensures { λ r. ⌜ r ≡ claimFrom setpoint actual acceptance floor shortfall ⌝ }
 {
     let under_delivery = less(floor, acceptance);
@@ -143,7 +100,7 @@ fn claim(setpoint: Kwh, actual: Kwh, acceptance: Kwh, floor: Kwh, shortfall: Kwh
     }
 }
 
-fn no_claims() -> [Claim; 32]
+pub(crate) fn no_claims() -> [Claim; 32]
     ensures { λ r. ⌜ r ≡ noClaims ⌝ }
 {
     let none = Kwh(0);
@@ -157,31 +114,4 @@ fn no_claims() -> [Claim; 32]
         gap: none,
     };
     [nothing; 32]
-}
-
-// The claims of the contracts, by their energies.
-pub(crate) fn claims(
-    setpoints: [Kwh; 32],
-    actuals: [Kwh; 32],
-    acceptances: [Kwh; 32],
-    floors: [Kwh; 32],
-    shortfalls: [Kwh; 32],
-    count: usize,
-) -> [Claim; 32]
-    requires { ⌜ count ≤ 32 ⌝ }
-    ensures { λ r. ⌜ r ≡ claimsAlong actuals acceptances floors shortfalls (take count setpoints) ++ drop count noClaims ⌝ }
-{
-    let mut out = no_claims();
-    let mut k = 0;
-    while k < count {
-        out[k] = claim(
-            setpoints[k],
-            actuals[k],
-            acceptances[k],
-            floors[k],
-            shortfalls[k],
-        );
-        k += 1;
-    }
-    out
 }

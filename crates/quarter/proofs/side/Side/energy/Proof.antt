@@ -1,6 +1,6 @@
 -- `quarter::side::Side::energy` meets its contract. The pool is the slice from 0 up to all that 64 bits hold.
 -- Assumes nothing.
-use Rattle.quarter.proofs.Columns.{whole-slice}
+use Rattle.quarter.proofs.Cuts.{whole-slice}
 use Rattle.quarter.proofs.PowerLaws.{front, front-length, small}
 use Rattle.quarter.specs.Sides.{powersIn}
 use borrow.Author.Needs.{needs}
