@@ -7,7 +7,7 @@ use native.Mathlib.Omega.{arith}
 use native.Mathlib.Numerals.{add-one}
 use native.Mathlib.Nat.{mul-le-mul-left, mul-le-mul-right, mul-assoc}
 use lib.IntN.{ℤ, pos}
-use lib.ListN.{length, take, drop, set, getD, length-append}
+use lib.ListN.{length, take, drop, set, getD, length-append, length-drop}
 use lib.Seq.{take-suc-set, take-at, length-take-le}
 use Rattle.arithmetic.specs.Whole.{up}
 use Rattle.arithmetic.proofs.Signed.{up-pos}
@@ -19,6 +19,7 @@ use Rattle.values.specs.declared.value.Quantity.{Quantity}
 use Rattle.values.specs.Part.{amountOf}
 use Rattle.values.proofs.Written.{written}
 use Rattle.quarter.specs.Powers.{Samples, next, powerAt, powersOf}
+use Rattle.quarter.proofs.Filling.{powers-900}
 use Rattle.quarter.specs.Sides.{partAt, powerIn, powersIn}
 use Rattle.quarter.specs.Blank.{noPowers}
 use Rattle.quarter.specs.Room.{Timely, Filled, Small}
@@ -82,12 +83,12 @@ module _ (x : Side) (t : Timely x) where
       pub front : take (x .count) r ≡ powersIn x q
       front = ahead (powersIn x q) r (x .count) powers-count f
 
-      pub front-fits : x .count ≤ length r
-      front-fits =
-          rw (f .are, length-append (powersIn x q) (drop (length (powersIn x q)) noPowers)) (omega (arith, powers-count))
+      pub whole-length : 900 ≡ length r
+      whole-length =
+          rw
+          (f .are, length-append (powersIn x q) (drop (length (powersIn x q)) noPowers), length-drop (length (powersIn x q)) noPowers, powers-900)
+          (omega (arith, powers-count, t .few))
 
-      pub front-length : x .count ≡ length (take (x .count) r)
-      front-length = sym (ap length front ∙ powers-count)
-
-      pub small : Small (x .seconds) (powersIn x q)
-      small = few-enough (powersIn x q) r (x .count) powers-count (x .seconds) (t .few) (t .quarter) f
+      pub ready : (x .count ≤ length r) × Small (x .seconds) (take (x .count) r)
+      ready =
+          (omega (arith, whole-length, t .few), rw front (few-enough (powersIn x q) r (x .count) powers-count (x .seconds) (t .few) (t .quarter) f))
