@@ -1,10 +1,7 @@
 -- No second answer fits a call of `print`.
-use Prim.Native.Nat.{ℕ}
-use mathlib.Core.List.{List}
-use mathlib.Core.Path.{_≡_, _∙_, sym}
 use denote.Ref.{now}
 use Rattle.binding.specs.Single.{SingleBytes}
-use Rattle.print.specs.Print.{Wrote}
+use Rattle.print.proofs.Writing.{wrote-only}
 use Rattle.print.proofs.put.Reads as put
 use Rattle.print.proofs.put_bytes.Reads as put-bytes
 use Rattle.print.proofs.put_tab.Reads as put-tab
@@ -13,26 +10,23 @@ use Rattle.print.proofs.put_count.Reads as put-count
 use Rattle.print.proofs.put_number.Reads as put-number
 use Rattle.print.proofs.put_date.Reads as put-date
 
-wrote-single : {d b b′ xs : List ℕ} {at r r′ : ℕ} → Wrote d at xs r b → Wrote d at xs r′ b′ → (r ≡ r′) × (b ≡ b′)
-wrote-single p q = (p .next ∙ sym (q .next), p .bytes ∙ sym (q .bytes))
-
 put-single : SingleBytes (λ κs x. now (x .0)) put.Post
-put-single κs a r r′ x x′ p q = wrote-single p q
+put-single κs a r r′ x x′ p q = wrote-only p q
 
 put-bytes-single : SingleBytes (λ κs x. now (x .0)) put-bytes.Post
-put-bytes-single κs a r r′ x x′ p q = wrote-single p q
+put-bytes-single κs a r r′ x x′ p q = wrote-only p q
 
 put-tab-single : SingleBytes (λ κs x. now (x .0)) put-tab.Post
-put-tab-single κs a r r′ x x′ p q = wrote-single p q
+put-tab-single κs a r r′ x x′ p q = wrote-only p q
 
 put-line-end-single : SingleBytes (λ κs x. now (x .0)) put-line-end.Post
-put-line-end-single κs a r r′ x x′ p q = wrote-single p q
+put-line-end-single κs a r r′ x x′ p q = wrote-only p q
 
 put-count-single : SingleBytes (λ κs x. now (x .0)) put-count.Post
-put-count-single κs a r r′ x x′ p q = wrote-single p q
+put-count-single κs a r r′ x x′ p q = wrote-only p q
 
 put-number-single : SingleBytes (λ κs x. now (x .0)) put-number.Post
-put-number-single κs a r r′ x x′ p q = wrote-single p q
+put-number-single κs a r r′ x x′ p q = wrote-only p q
 
 put-date-single : SingleBytes (λ κs x. now (x .0)) put-date.Post
-put-date-single κs a r r′ x x′ p q = wrote-single p q
+put-date-single κs a r r′ x x′ p q = wrote-only p q
