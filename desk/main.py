@@ -1,0 +1,89 @@
+"""The command line: finds the command, runs it, and turns every way that it can end in into an exit status."""
+import argparse
+import importlib
+import os
+import signal
+import sys
+
+from desk import endings, streams
+from desk.commands import COMMANDS
+from desk.endings import ACCEPTED, ReaderGone, Stopped, Trouble
+
+ABOUT = """Fireboxer settles a pool's secondary control energy, by programs that are proved.
+
+usage: fireboxer COMMAND [WORD ..]
+
+commands:
+{commands}
+  help [COMMAND]  this text, or that of a command; so does COMMAND --help
+  --version       commit, toolchain, and whether what runs is built from what is there
+
+  ./fireboxer settle examples/example.txt
+
+The first time, and after a source changed, the program is proved before it is built, which takes some minutes.
+
+{statuses}
+"""
+
+
+class Parser(argparse.ArgumentParser):
+    """A parser whose help and errors go the way of all other output."""
+
+    def print_help(self, file=None):
+        streams.print_out(self.format_help().encode())
+
+    def error(self, message):
+        raise Trouble(f"{message}; see fireboxer help")
+
+
+def main(words):
+    """runs the command line, and ends the process"""
+    streams.hold_closed_streams()
+    for number in (signal.SIGINT, signal.SIGTERM, signal.SIGHUP):
+        if signal.getsignal(number) != signal.SIG_IGN:
+            signal.signal(number, _stop)
+    try:
+        sys.exit(_run(words))
+    except Trouble as trouble:
+        streams.say(trouble)
+        sys.exit(trouble.status)
+    except OSError as error:
+        streams.say(error)
+        sys.exit(endings.TROUBLE)
+    except ReaderGone:
+        _end_by(signal.SIGPIPE)
+    except Stopped as stopped:
+        _end_by(stopped.signal_number)
+
+
+def _stop(number, _frame):
+    raise Stopped(number)
+
+
+def _end_by(number):
+    """Ends as by the signal, so that a shell or a script that called sees the reason."""
+    signal.signal(number, signal.SIG_DFL)
+    os.kill(os.getpid(), number)
+
+
+def _run(words):
+    command, *rest = words or ["help"]
+    if command in ("help", "--help", "-h"):
+        return _run([rest[0], "--help"]) if rest else _help()
+    if command == "--version":
+        from desk.version import tell
+        return tell()
+    if command not in COMMANDS:
+        raise Trouble(f"there is no command {command}; see fireboxer help")
+    module = importlib.import_module(f"desk.commands.{command}")
+    # a fixed width, since asking for the terminal's takes longer than all else here
+    parser = Parser(prog=f"fireboxer {command}", description=f"{COMMANDS[command]}", epilog=endings.table(), allow_abbrev=False,
+                    formatter_class=lambda prog: argparse.RawDescriptionHelpFormatter(prog, width=120))
+    module.arguments(parser)
+    return module.run(parser.parse_args(rest))
+
+
+def _help():
+    commands = "\n".join(f"  {name:<14}  {summary}" for name, summary in COMMANDS.items())
+    streams.print_out(ABOUT.format(commands=commands, statuses=endings.table()).encode())
+    return ACCEPTED

@@ -1,0 +1,89 @@
+"""Runs a proved program on an input, in blocks: nothing is done for each line, and no more is held than a few blocks."""
+import collections
+import os
+import select
+import subprocess
+
+from desk.endings import NOT_BUILT, Trouble
+from desk.inputs import BLOCK
+from desk.places import ROOT
+
+# The last bytes of a sheet that are kept: the longest line is far shorter.
+TAIL = 4096
+
+# The line and the number of a refusal.
+Refused = collections.namedtuple("Refused", "line number")
+
+
+def run(name, source, take):
+    """Runs the program on an input and hands what it prints to `take`, block by block. Answers the refusal that ended the run, or None."""
+    process = subprocess.Popen([os.path.join(ROOT, "tools", "program"), name], stdin=subprocess.PIPE, stdout=subprocess.PIPE, bufsize=0)
+    try:
+        tail = _pump(process, source, take)
+        status = process.wait()
+    finally:
+        _end(process)
+    if status == NOT_BUILT:
+        raise Trouble("the program can't be run on this machine", NOT_BUILT)
+    if status != 0:
+        how = f"by signal {-status}" if status < 0 else f"with status {status}"
+        raise Trouble(f"{source.name}: the program {name} was ended {how}, and what it printed is not whole")
+    return _refusal(tail)
+
+
+def _end(process):
+    """Leaves nothing behind, whatever stopped the run: the program goes first, so that it takes no early end for the end of its input."""
+    if process.poll() is None:
+        process.kill()
+        process.wait()
+    process.stdin.close()
+    process.stdout.close()
+
+
+def _pump(process, source, take):
+    """moves blocks both ways until the program ends; answers the end of what it printed"""
+    into, out = process.stdin.fileno(), process.stdout.fileno()
+    os.set_blocking(into, False)
+    unfed, more, tail = b"", True, b""
+    while True:
+        ready = _ready(out, into if unfed else None, source.descriptor if more and not unfed else None)
+        if out in ready:
+            printed = os.read(out, BLOCK)
+            if not printed:
+                return tail
+            tail = (tail + printed)[-TAIL:]
+            take(printed)
+        elif unfed:
+            unfed, more = _feed(into, unfed)
+        else:
+            block = source.read()
+            unfed, more = block or b"", block != b""
+        if not more and not process.stdin.closed:
+            process.stdin.close()
+
+
+def _ready(out, into, source):
+    """waits until something can be moved, and answers which descriptors"""
+    waiting = select.poll()
+    waiting.register(out, select.POLLIN)
+    if into is not None:
+        waiting.register(into, select.POLLOUT)
+    if source is not None:
+        waiting.register(source, select.POLLIN)
+    return {descriptor for descriptor, _ in waiting.poll()}
+
+
+def _feed(into, unfed):
+    """hands on what the pipe takes; answers the rest, and whether the program still reads"""
+    try:
+        return unfed[os.write(into, unfed):], True
+    except BlockingIOError:
+        return unfed, True
+    except BrokenPipeError:
+        return b"", False
+
+
+def _refusal(tail):
+    """the refusal that a sheet ends in, or None"""
+    kind, *fields = tail.rstrip(b"\n").rpartition(b"\n")[2].split(b"\t")
+    return Refused(*map(int, fields)) if kind == b"R" else None

@@ -1,0 +1,69 @@
+"""The toolchain's `rt check`, with its progress on standard error and its failures in words."""
+import contextlib
+import os
+import shutil
+import signal
+import subprocess
+import tempfile
+
+from desk.endings import NOT_BUILT, Trouble
+from desk.places import ROOT
+from desk.streams import STANDARD_ERROR, say, write_all
+
+# How long processes that were asked to end may take to, in seconds.
+GRACE = 5
+
+
+def prove(name):
+    """proves a program and all that it is built on, builds it and runs it on its own example"""
+    failed = ""
+    with _started(["rt", "check", name]) as process:
+        for line in process.stdout:
+            if line.startswith(b"rt: FAILED:"):
+                failed = line.partition(b":")[2].partition(b":")[2].decode("utf-8", "replace").strip()
+            if line.startswith(b"rt: "):
+                _show(line)
+        status = process.wait()
+    if status == 0:
+        return
+    if failed:
+        logs = ", ".join(f"target/log/{crate}.out" for crate in failed.split())
+        raise Trouble(f"the proof fails, so nothing is built: {failed}; {logs} has what the prover said", NOT_BUILT)
+    raise Trouble(f"the toolchain failed, so nothing is built: rt check {name} ended with status {status}", NOT_BUILT)
+
+
+def _show(line):
+    try:
+        write_all(STANDARD_ERROR, line)
+    except OSError:
+        pass
+
+
+@contextlib.contextmanager
+def _started(command):
+    """A command in a group of its own, which is ended with all that it started, and a folder for temporary files, which goes with it."""
+    scratch = tempfile.mkdtemp(prefix="fireboxer-")
+    try:
+        # the toolchain runs programs as another user, who has to get through
+        os.chmod(scratch, 0o711)
+        process = subprocess.Popen(command, cwd=ROOT, stdin=subprocess.DEVNULL, stdout=subprocess.PIPE, stderr=subprocess.STDOUT,
+                                   start_new_session=True, env=dict(os.environ, TMPDIR=scratch))
+        try:
+            yield process
+        finally:
+            _end_group(process)
+            process.stdout.close()
+    finally:
+        shutil.rmtree(scratch, ignore_errors=True)
+
+
+def _end_group(process):
+    """The toolchain's own children ignore Ctrl-C, so the whole group is ended by name."""
+    if process.poll() is not None:
+        return
+    say("stopping the proof")
+    for number in (signal.SIGTERM, signal.SIGKILL):
+        with contextlib.suppress(ProcessLookupError):
+            os.killpg(process.pid, number)
+        with contextlib.suppress(subprocess.TimeoutExpired):
+            process.wait(GRACE)
