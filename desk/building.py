@@ -1,11 +1,9 @@
 """Never a stale program: what runs is built, by a proof, from the sources and with the toolchain that are there.
 
-After a successful `rt check` a record beside the programs says what it was about: the kit, a digest of the sources, one of the program. A run compares
-the record with what is there. Reading all sources would take longer than settling a small input, so the record also has a digest of their names,
-sizes and times, and the contents are read only where that differs."""
+After a successful `rt check` a record beside the programs says what it was about: the kit, a digest of the sources, one of the program, and the size
+and the times of each of these files. A run compares the record with what is there: sizes and times, and the contents only where those differ."""
 import contextlib
 import fcntl
-import hashlib
 import os
 import subprocess
 import time
@@ -21,8 +19,13 @@ NO_SOURCES = ("must-fail", "wrong-answers")
 TOO_FRESH = 2 * 10**9
 
 
+def program_file(name):
+    """where a program is when it is built"""
+    return os.path.join(TARGET, "bin", name)
+
+
 def ensure_built(name):
-    """proves and builds a program, where what is there is not built from what is there"""
+    """proves and builds a program, where it is not built from what is there"""
     reason = why_stale(name)
     if reason:
         _build(name, reason)
@@ -30,33 +33,42 @@ def ensure_built(name):
 
 def why_stale(name):
     """why a program has to be built, in words, or None where it is built from what is there"""
-    if not os.access(_program(name), os.X_OK):
+    if not os.access(program_file(name), os.X_OK):
         return f"the program {name} is not built yet"
     record = _read_record(name)
     if not record:
         return f"nothing says what the program {name} was built from"
     if kit() not in (record["kit"], None):
         return f"the program {name} was built with another toolchain"
-    if record["program"] != _digest_of_file(_program(name)):
-        return f"the program {name} is another than the one that was recorded"
     files = _sources()
-    if record["times"] == _digest_of_times(files):
+    times = _times(name, files)
+    if times and times == record["times"]:
         return None
-    if record["sources"] != _digest_of_contents(files):
+    if record["sources"] != _digest(files):
         return f"the sources changed since the program {name} was built"
+    if record["program"] != _digest([program_file(name)]):
+        return f"the program {name} is not the one that was built"
     # where the times can't be written, the contents are read again the next time
     with contextlib.suppress(OSError):
-        _write_record(name, record, files)
+        _write_record(name, dict(record, times=_times(name, files)))
     return None
 
 
 def kit():
-    """what toolchain is there, or None"""
-    try:
-        answer = subprocess.run(["rt", "version"], stdin=subprocess.DEVNULL, stdout=subprocess.PIPE, stderr=subprocess.DEVNULL, cwd=ROOT)
-    except OSError:
+    """What toolchain is there, or None. The file KIT-ID is what `rt version` prints; asking rt itself would take a good part of a start-up."""
+    command = next((path for path in _commands("rt") if os.access(path, os.X_OK)), None)
+    if command is None:
         return None
-    return answer.stdout.decode("utf-8", "replace").strip() or None
+    home = os.environ.get("RATTLE_HOME") or os.path.dirname(os.path.dirname(os.path.realpath(command)))
+    try:
+        with open(os.path.join(home, "KIT-ID"), encoding="utf-8") as file:
+            return file.readline().strip()
+    except OSError:
+        return subprocess.run([command, "version"], stdin=subprocess.DEVNULL, stdout=subprocess.PIPE).stdout.decode("utf-8", "replace").strip()
+
+
+def _commands(name):
+    return (os.path.join(folder, name) for folder in os.get_exec_path())
 
 
 def _build(name, reason):
@@ -74,7 +86,6 @@ def _build(name, reason):
         while reason:
             say(f"{reason}: proving and building it, which takes some minutes where much changed")
             _prove_and_record(name)
-            # a source that changed while it was proved makes it stale again
             reason = why_stale(name)
 
 
@@ -89,70 +100,73 @@ def _wait_for(lock):
 def _prove_and_record(name):
     # imported here, since a run that builds nothing needs none of it
     from desk.proving import prove
-    files = _sources()
-    record = {"kit": kit(), "sources": _digest_of_contents(files)}
+    # without times, so that the contents are compared once more: a source may change while it is proved
+    record = {"kit": kit(), "sources": _digest(_sources()), "times": ""}
+    _give_up_foreign(name, record["sources"])
     prove(name)
-    if not os.access(_program(name), os.X_OK):
-        raise Trouble(f"rt check {name} ended well and made no {_program(name)}", NOT_BUILT)
-    record["program"] = _digest_of_file(_program(name))
+    if not os.access(program_file(name), os.X_OK):
+        raise Trouble(f"rt check {name} ended well and made no {program_file(name)}", NOT_BUILT)
+    record["program"] = _digest([program_file(name)])
     try:
-        _write_record(name, record, files)
+        _write_record(name, record)
     except OSError as error:
         raise Trouble(f"the program {name} is built, and {RECORDS} can't be written to: {error.strerror}", NOT_BUILT) from None
 
 
-def _program(name):
-    return os.path.join(TARGET, "bin", name)
+def _give_up_foreign(name, sources):
+    """Has a program made anew that is gone or that something else wrote: rt looks at the sources alone, and would leave it as it is."""
+    known = _read_record(name)
+    here = os.access(program_file(name), os.X_OK)
+    if not here or (known and known["sources"] == sources and known["program"] != _digest([program_file(name)])):
+        with contextlib.suppress(FileNotFoundError):
+            os.unlink(os.path.join(TARGET, "stamp", name))
 
 
 def _sources():
-    """(path, status) of every file that a proof may read, in order"""
-    files, folders = [], [os.path.join(ROOT, "crates")]
+    """every file that a proof may read, in order"""
+    files, folders = [os.path.join(ROOT, "crates.txt")], [os.path.join(ROOT, "crates")]
     while folders:
         with os.scandir(folders.pop()) as entries:
             for entry in entries:
                 if not entry.is_dir(follow_symlinks=False):
-                    files.append((entry.path, entry.stat()))
+                    files.append(entry.path)
                 elif entry.name not in NO_SOURCES:
                     folders.append(entry.path)
-    listing = os.path.join(ROOT, "crates.txt")
-    return sorted([*files, (listing, os.stat(listing))])
+    return sorted(files)
 
 
-def _digest_of_times(files):
-    """of names, sizes and times, or None where a file is so fresh that its time says nothing"""
-    digest, newest = hashlib.sha256(), 0
-    for path, status in files:
-        digest.update(f"{path}\0{status.st_size}\0{status.st_mtime_ns}\0{status.st_ctime_ns}\0{status.st_ino}\n".encode("utf-8", "surrogateescape"))
+def _times(name, files):
+    """names, sizes and times of a program and its sources; empty where one is so fresh that its time says nothing"""
+    told, newest = [], 0
+    for path in [program_file(name), *files]:
+        status = os.stat(path)
+        told.append(f"{path} {status.st_size} {status.st_mtime_ns} {status.st_ctime_ns} {status.st_ino}")
         newest = max(newest, status.st_mtime_ns, status.st_ctime_ns)
-    return None if newest > time.time_ns() - TOO_FRESH else digest.hexdigest()
+    return "" if newest > time.time_ns() - TOO_FRESH else "\n".join(told)
 
 
-def _digest_of_contents(files):
+def _digest(files):
+    """of the names and the contents of files"""
+    import hashlib
     digest = hashlib.sha256()
-    for path, _ in files:
-        digest.update(f"{os.path.relpath(path, ROOT)}\0{_digest_of_file(path)}\n".encode("utf-8", "surrogateescape"))
+    for path in files:
+        with open(path, "rb") as file:
+            digest.update(f"{os.path.relpath(path, ROOT)} {hashlib.sha256(file.read()).hexdigest()}\n".encode("utf-8", "surrogateescape"))
     return digest.hexdigest()
-
-
-def _digest_of_file(path):
-    with open(path, "rb") as file:
-        return hashlib.sha256(file.read()).hexdigest()
 
 
 def _read_record(name):
     """the record of a program, or None where there is none, or none that can be read"""
     try:
-        with open(os.path.join(RECORDS, name), encoding="utf-8") as file:
-            record = dict(line.rstrip("\n").split(" ", 1) for line in file)
+        with open(os.path.join(RECORDS, name), encoding="utf-8", errors="surrogateescape") as file:
+            kit_then, sources, program, times = file.read().split("\n", 3)
     except (OSError, ValueError):
         return None
-    return record if {"kit", "sources", "program", "times"} <= set(record) else None
+    return {"kit": kit_then, "sources": sources, "program": program, "times": times}
 
 
-def _write_record(name, record, files):
-    record = dict(record, times=_digest_of_times(files) or "unknown")
+def _write_record(name, record):
     path = os.path.join(RECORDS, name)
-    with open(path + ".new", "w", encoding="utf-8") as file:
-        file.writelines(f"{key} {value}\n" for key, value in record.items())
+    with open(path + ".new", "w", encoding="utf-8", errors="surrogateescape") as file:
+        file.write("\n".join([record["kit"], record["sources"], record["program"], record["times"]]))
     os.replace(path + ".new", path)

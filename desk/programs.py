@@ -4,6 +4,7 @@ import os
 import select
 import subprocess
 
+from desk.building import program_file
 from desk.endings import NOT_BUILT, Trouble
 from desk.inputs import BLOCK
 from desk.places import ROOT
@@ -17,7 +18,7 @@ Refused = collections.namedtuple("Refused", "line number")
 
 def run(name, source, take):
     """Runs the program on an input and hands what it prints to `take`, block by block. Answers the refusal that ended the run, or None."""
-    process = subprocess.Popen([os.path.join(ROOT, "tools", "program"), name], stdin=subprocess.PIPE, stdout=subprocess.PIPE, bufsize=0)
+    process = subprocess.Popen(_command(name), stdin=subprocess.PIPE, stdout=subprocess.PIPE, bufsize=0)
     try:
         tail = _pump(process, source, take)
         status = process.wait()
@@ -29,6 +30,11 @@ def run(name, source, take):
         how = f"by signal {-status}" if status < 0 else f"with status {status}"
         raise Trouble(f"{source.name}: the program {name} was ended {how}, and what it printed is not whole")
     return _refusal(tail)
+
+
+def _command(name):
+    """how a program is run: as it is on the processor that it is made for, by tools/program elsewhere"""
+    return [program_file(name)] if os.uname().machine == "x86_64" else [os.path.join(ROOT, "tools", "program"), name]
 
 
 def _end(process):
