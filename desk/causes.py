@@ -3,7 +3,6 @@ import datetime
 import re
 
 from desk.illformed import Cause, cause_of_ill_form, encoding
-from desk.layout import KINDS
 from desk.refusals import remedy
 from desk.visible import grouped, visible
 
@@ -26,7 +25,7 @@ FIELDS = {2: 2, 3: 3, 5: 4, 9: 3, 11: 4}
 def _wrong_moment(line, before):
     letter = line.text[:1]
     if before.header is None:
-        return Cause(0, f"the first line is a {KINDS[letter].name} line, and has to be the header", "put the D line first")
+        return Cause(0, f"the first line has to be the header, and this one begins with {letter.decode()}", "put the D line first")
     if letter == b"D":
         return Cause(0, f"a second header, after {_so_far(before)}", "give each day or stretch an input of its own, with one D line at its top and E at its end")
     if letter == b"C":

@@ -26,11 +26,3 @@ class Trouble(Exception):
 
 class ReaderGone(Exception):
     """Whoever read standard output has closed it, as head does."""
-
-
-class Stopped(BaseException):
-    """A signal asks to stop. Like KeyboardInterrupt, no `except Exception` takes it."""
-
-    def __init__(self, signal_number):
-        super().__init__(signal_number)
-        self.signal_number = signal_number

@@ -56,7 +56,7 @@ def _signs_for_tabs(line):
     for sign, name, command in FOR_TABS:
         parts = re.split(b"[\t" + re.escape(sign) + b"]+", line.text)
         wanted = len(KINDS[parts[0]].fields) if parts[0] in KINDS else 0
-        if sign in line.text and wanted and (len(parts) == wanted + 1 or b"\t" not in line.text):
+        if sign in line.text and line.text.count(b"\t") < wanted and (len(parts) == wanted + 1 or b"\t" not in line.text):
             return Cause(None, f"{name} for tabs: one tab stands between two fields", f"put one tab for each, or: {command}")
     return None
 

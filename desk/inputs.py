@@ -6,6 +6,7 @@ import stat
 
 from desk.endings import Trouble
 from desk.streams import CLOSED, STANDARD_INPUT
+from desk.visible import visible
 
 BLOCK = 1 << 16
 # Header and contracts stand within this many first bytes of any input that is not refused among them.
@@ -31,13 +32,11 @@ def look_at(path):
     try:
         kind = os.stat(path).st_mode
     except OSError as error:
-        raise Trouble(f"{path} can't be read: {error.strerror}") from None
-    except ValueError:
-        raise Trouble("a file name can't have a zero byte in it") from None
+        raise Trouble(f"{called(path)} can't be read: {error.strerror}") from None
     if stat.S_ISDIR(kind):
-        raise Trouble(f"{path} can't be read: it is a folder")
+        raise Trouble(f"{called(path)} can't be read: it is a folder")
     if not os.access(path, os.R_OK):
-        raise Trouble(f"{path} can't be read: Permission denied")
+        raise Trouble(f"{called(path)} can't be read: Permission denied")
 
 
 def is_file(path, other):
@@ -51,7 +50,7 @@ def is_file(path, other):
 
 def called(path):
     """what messages call an input"""
-    return "standard input" if path == "-" else path
+    return "standard input" if path == "-" else visible(os.fsencode(path))
 
 
 class Input:

@@ -5,9 +5,10 @@ import os
 import signal
 import sys
 
-from desk import endings, streams
+from desk import endings, signals, streams
 from desk.commands import COMMANDS
-from desk.endings import ACCEPTED, ReaderGone, Stopped, Trouble
+from desk.endings import ACCEPTED, ReaderGone, Trouble
+from desk.visible import visible
 
 ABOUT = """Fireboxer settles a pool's secondary control energy, by programs that are proved.
 
@@ -39,9 +40,7 @@ class Parser(argparse.ArgumentParser):
 def main(words):
     """runs the command line, and ends the process"""
     streams.hold_closed_streams()
-    for number in (signal.SIGINT, signal.SIGTERM, signal.SIGHUP):
-        if signal.getsignal(number) != signal.SIG_IGN:
-            signal.signal(number, _stop)
+    signals.watch()
     try:
         sys.exit(_run(words))
     except Trouble as trouble:
@@ -51,19 +50,9 @@ def main(words):
         streams.say(error)
         sys.exit(endings.TROUBLE)
     except ReaderGone:
-        _end_by(signal.SIGPIPE)
-    except Stopped as stopped:
-        _end_by(stopped.signal_number)
-
-
-def _stop(number, _frame):
-    raise Stopped(number)
-
-
-def _end_by(number):
-    """Ends as by the signal, so that a shell or a script that called sees the reason."""
-    signal.signal(number, signal.SIG_DFL)
-    os.kill(os.getpid(), number)
+        signals.end_by(signal.SIGPIPE)
+    except signals.Stopped as stopped:
+        signals.end_by(stopped.number)
 
 
 def _run(words):
@@ -74,7 +63,7 @@ def _run(words):
         from desk.version import tell
         return tell()
     if command not in COMMANDS:
-        raise Trouble(f"there is no command {command}; see fireboxer help")
+        raise Trouble(f"there is no command {visible(os.fsencode(command))}; see fireboxer help")
     module = importlib.import_module(f"desk.commands.{command}")
     # a fixed width, since asking for the terminal's takes longer than all else here
     parser = Parser(prog=f"fireboxer {command}", description=f"{COMMANDS[command]}", epilog=endings.table(), allow_abbrev=False,

@@ -5,12 +5,16 @@ import stat
 
 from desk.endings import Trouble
 from desk.streams import print_out, write_all
+from desk.visible import visible
 
 
 class StandardOutput:
     """It takes what there is as it comes, and what was written stands."""
 
     write = staticmethod(print_out)
+
+    def open(self):
+        """it is open"""
 
     def finish(self):
         """nothing is left to do"""
@@ -24,8 +28,12 @@ class Device:
 
     def __init__(self, path):
         self.path = path
-        with _told(path):
-            self.descriptor = os.open(path, os.O_WRONLY)
+        self.descriptor = None
+
+    def open(self):
+        """opens it, which for a pipe waits for its reader"""
+        with _told(self.path):
+            self.descriptor = os.open(self.path, os.O_WRONLY)
 
     def write(self, data):
         """writes at once"""
@@ -37,7 +45,8 @@ class Device:
 
     def close(self):
         """closes it"""
-        os.close(self.descriptor)
+        if self.descriptor is not None:
+            os.close(self.descriptor)
 
 
 class WholeFile:
@@ -47,7 +56,11 @@ class WholeFile:
         self.path = path
         self.place = os.path.realpath(path)
         self.draft = f"{self.place}.{os.getpid()}.draft"
-        with _told(path):
+        self.descriptor = None
+
+    def open(self):
+        """begins the draft"""
+        with _told(self.path):
             self.descriptor = os.open(self.draft, os.O_WRONLY | os.O_CREAT | os.O_EXCL, 0o666)
 
     def write(self, data):
@@ -65,8 +78,9 @@ class WholeFile:
 
     def close(self):
         """leaves no draft"""
-        os.close(self.descriptor)
-        with contextlib.suppress(FileNotFoundError):
+        if self.descriptor is not None:
+            os.close(self.descriptor)
+        with contextlib.suppress(OSError):
             os.unlink(self.draft)
 
 
@@ -75,7 +89,7 @@ def _told(path):
     try:
         yield
     except OSError as error:
-        raise Trouble(f"{path} can't be written: {error.strerror}") from None
+        raise Trouble(f"{visible(os.fsencode(path))} can't be written: {error.strerror}") from None
 
 
 @contextlib.contextmanager
@@ -83,6 +97,7 @@ def opened(path):
     """The output of a path, None and - for standard output. What is not finished leaves no file."""
     output = _output(path)
     try:
+        output.open()
         yield output
     finally:
         output.close()

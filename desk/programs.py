@@ -4,6 +4,7 @@ import os
 import select
 import subprocess
 
+from desk import signals
 from desk.building import program_file
 from desk.endings import NOT_BUILT, Trouble
 from desk.inputs import BLOCK
@@ -18,12 +19,15 @@ Refused = collections.namedtuple("Refused", "line number")
 
 def run(name, source, take):
     """Runs the program on an input and hands what it prints to `take`, block by block. Answers the refusal that ended the run, or None."""
-    process = subprocess.Popen(_command(name), stdin=subprocess.PIPE, stdout=subprocess.PIPE, bufsize=0)
+    process = None
     try:
+        with signals.held():
+            process = subprocess.Popen(_command(name), stdin=subprocess.PIPE, stdout=subprocess.PIPE, bufsize=0)
         tail = _pump(process, source, take)
         status = process.wait()
     finally:
-        _end(process)
+        if process:
+            _end(process)
     if status == NOT_BUILT:
         raise Trouble("the program can't be run on this machine", NOT_BUILT)
     if status != 0:

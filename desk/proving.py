@@ -6,6 +6,7 @@ import signal
 import subprocess
 import tempfile
 
+from desk import signals
 from desk.endings import NOT_BUILT, Trouble
 from desk.places import ROOT
 from desk.streams import STANDARD_ERROR, say, write_all
@@ -42,19 +43,21 @@ def _show(line):
 @contextlib.contextmanager
 def _started(command):
     """A command in a group of its own, which is ended with all that it started, and a folder for temporary files, which goes with it."""
-    scratch = tempfile.mkdtemp(prefix="fireboxer-")
+    scratch = process = None
     try:
-        # the toolchain runs programs as another user, who has to get through
-        os.chmod(scratch, 0o711)
-        process = subprocess.Popen(command, cwd=ROOT, stdin=subprocess.DEVNULL, stdout=subprocess.PIPE, stderr=subprocess.STDOUT,
-                                   start_new_session=True, env=dict(os.environ, TMPDIR=scratch))
-        try:
-            yield process
-        finally:
+        with signals.held():
+            scratch = tempfile.mkdtemp(prefix="fireboxer-")
+            # the toolchain runs programs as another user, who has to get through
+            os.chmod(scratch, 0o711)
+            process = subprocess.Popen(command, cwd=ROOT, stdin=subprocess.DEVNULL, stdout=subprocess.PIPE, stderr=subprocess.STDOUT,
+                                       start_new_session=True, env=dict(os.environ, TMPDIR=scratch))
+        yield process
+    finally:
+        if process:
             _end_group(process)
             process.stdout.close()
-    finally:
-        shutil.rmtree(scratch, ignore_errors=True)
+        if scratch:
+            shutil.rmtree(scratch, ignore_errors=True)
 
 
 def _end_group(process):

@@ -4,7 +4,7 @@ import os
 from desk import programs, sheets
 from desk.building import ensure_built
 from desk.endings import ACCEPTED, REFUSED, Trouble
-from desk.inputs import Input, is_file, look_at
+from desk.inputs import Input, called, is_file, look_at
 from desk.outputs import opened
 from desk.refusals import help_table
 from desk.streams import say
@@ -50,7 +50,7 @@ def _plan(options, paths):
         raise Trouble("several inputs: give -o FOLDER for a sheet each, or --join for one after the other")
     for output, _ in plan:
         if output not in (None, "-") and any(is_file(path, output) for path in paths):
-            raise Trouble(f"{output} is an input, and would be written over")
+            raise Trouble(f"{called(output)} is an input, and would be written over")
     return plan
 
 
@@ -59,13 +59,13 @@ def _plan_for_folder(options, paths):
     if options.join:
         raise Trouble("--join writes one output: give -o FILE, or no -o")
     if not os.path.isdir(folder):
-        raise Trouble(f"{folder} can't be written: there is no such folder")
+        raise Trouble(f"{called(folder)} can't be written: there is no such folder")
     plan = {}
     for path in paths:
         name = "stdin" if path == "-" else os.path.splitext(os.path.basename(path))[0]
         output = os.path.join(folder, name + ENDINGS[options.form])
         if output in plan:
-            raise Trouble(f"{plan[output][0]} and {path} would both be written to {output}")
+            raise Trouble(f"{called(plan[output][0])} and {called(path)} would both be written to {called(output)}")
         plan[output] = [path]
     return list(plan.items())
 
@@ -79,7 +79,7 @@ def _settle_to(place, paths, options):
         if status == ACCEPTED:
             output.finish()
         elif place not in (None, "-"):
-            say(f"{place} is not written, since an input was refused")
+            say(f"{called(place)} is not written, since an input was refused")
     return status
 
 
