@@ -72,10 +72,18 @@ def _plan_for_folder(options, paths):
 
 def _settle_to(place, paths, options):
     """settles inputs to one output"""
+    status, separator = ACCEPTED, options.separator or ";"
+    heading = sheets.csv_header(separator) if options.form == "csv" else ""
     with opened(place) as output:
-        if options.form == "csv":
-            output.write(sheets.csv_header(_separator(options)).encode())
-        status = max(_settle(path, output, options) for path in paths)
+        for path in paths:
+            sheet = _settle(path, output.write if options.form == "sheet" else None)
+            if sheet is None:
+                status = REFUSED
+            elif options.form == "table":
+                output.write("".join(sheets.table(sheets.read(sheet))).encode())
+            elif options.form == "csv":
+                output.write((heading + "".join(sheets.csv(sheets.read(sheet), separator))).encode())
+                heading = ""
         if status == ACCEPTED:
             output.finish()
         elif place not in (None, "-"):
@@ -83,25 +91,17 @@ def _settle_to(place, paths, options):
     return status
 
 
-def _separator(options):
-    return options.separator or ";"
-
-
-def _settle(path, output, options):
-    """settles one input"""
+def _settle(path, take):
+    """settles one input, and hands its sheet to `take` as it comes or, without one, answers it whole; None where the input is refused"""
     sheet = bytearray()
     with Input(path) as source:
-        refused = programs.run("settle", source, output.write if options.form == "sheet" else sheet.extend)
+        refused = programs.run("settle", source, take or sheet.extend)
         if refused:
             # imported here, since a run that is accepted needs none of it
             from desk.messages import refusal
             say(refusal(source, refused))
-            return REFUSED
+            return None
         if source.goes_on_after_end():
             say(f"{source.name}: more follows the end line (line {source.end_line_number()}), and is not read: "
                 "a further day needs an input of its own")
-    if options.form == "table":
-        output.write("".join(sheets.table(sheets.read(sheet))).encode())
-    elif options.form == "csv":
-        output.write("".join(sheets.csv(sheets.read(sheet), _separator(options))).encode())
-    return ACCEPTED
+    return sheet

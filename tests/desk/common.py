@@ -1,6 +1,7 @@
 """What the tests of the front end share: how it is called, and inputs to call it with."""
 import os
 import pathlib
+import signal
 import subprocess
 import sys
 import tempfile
@@ -8,6 +9,9 @@ import unittest
 
 ROOT = pathlib.Path(__file__).resolve().parents[2]
 sys.path.insert(0, str(ROOT))
+
+# a shell has what it starts in the background ignore Ctrl-C, and what that starts would, too
+signal.signal(signal.SIGINT, signal.default_int_handler)
 
 FIREBOXER = ROOT / "fireboxer"
 EXAMPLE = ROOT / "examples" / "example.txt"

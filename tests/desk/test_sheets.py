@@ -48,8 +48,7 @@ class Table(FrontEnd):
     def test_refused_gives_no_table(self):
         for form in ("--table", "--csv"):
             answer = self.call("settle", form, input=GOOD[:-1])
-            self.assertEqual(answer.returncode, 1)
-            self.assertNotIn(b"2017", answer.stdout)
+            self.assertEqual((answer.returncode, answer.stdout), (1, b""))
 
 
 class Csv(FrontEnd):
