@@ -16,6 +16,11 @@ def table():
     return "\n".join(["exit status:", *lines, "  Ctrl-C and a reader that closed its end (| head) end it by their signal, as they end other programs"])
 
 
+def readme_table():
+    """the exit statuses, as the README has them"""
+    return "\n".join(["| Exit status | Meaning |", "|---|---|"] + [f"| {status} | {words} |" for status, words in STATUSES])
+
+
 class Trouble(Exception):
     """What keeps a run from its answer, in words for standard error, with the exit status."""
 

@@ -3,7 +3,7 @@ import re
 
 from desk.visible import visible
 
-WHOLE = "numbers are whole, in kW, seconds or cent per MWh, with no sign for decimals or thousands: 50.00 EUR per MWh are 5000 cent"
+WHOLE = "write a whole number without decimals or separators: 50.00 EUR per MWh are 5000 cent"
 
 
 def faulty(form, data):

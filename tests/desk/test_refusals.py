@@ -5,7 +5,7 @@ import subprocess
 
 from common import CONTRACTS, GOOD, HEADER, ROOT, SAMPLES, FrontEnd, lines, program
 
-from desk import messages, programs, refusals
+from desk import endings, messages, programs, refusals
 from desk.inputs import Input
 
 FOUR = HEADER[:-1] + "4"
@@ -217,9 +217,10 @@ class OneList(FrontEnd):
 
     def test_readme(self):
         rows = re.findall(r"^\|.*\|$", (ROOT / "README.md").read_text(encoding="utf-8"), re.M)
-        wanted = refusals.readme_table().splitlines()
-        first = rows.index(wanted[0])
-        self.assertEqual(rows[first:first + len(wanted)], wanted)
+        for table in (refusals.readme_table(), endings.readme_table()):
+            wanted = table.splitlines()
+            first = rows.index(wanted[0])
+            self.assertEqual(rows[first:first + len(wanted)], wanted)
 
     def test_in_order(self):
         numbers = [refusal.number for refusal in refusals.REFUSALS]
