@@ -27,19 +27,19 @@ def _wrong_moment(line, before):
     if before.header is None:
         return Cause(0, f"the first line has to be the header, and this one begins with {letter.decode()}", "put the D line first")
     if letter == b"D":
-        return Cause(0, f"a second header, after {_so_far(before)}", "give each day or stretch an input of its own, with one D line at its top and E at its end")
+        return Cause(0, f"a second header, {_so_far(before)}", "give each day or stretch an input of its own, with one D line at its top and E at its end")
     if letter == b"C":
-        return Cause(0, f"a contract after {_so_far(before)}", "move the C lines up, between the D line and the first S line")
+        return Cause(0, f"a contract {_so_far(before)}", "move the C lines up, between the D line and the first S line")
     return _end_too_early(before) if letter == b"E" else _sample_too_many(before)
 
 
 def _so_far(before):
     """where the samples stand, in words"""
     if before.samples == 0:
-        return "no sample yet"
+        return "before the first sample"
     each = before.samples_of_quarter()
     quarter, samples = divmod(before.samples - 1, each)
-    return f"{samples + 1} of {each} samples of quarter hour {quarter}"
+    return f"after {samples + 1} of {each} samples of quarter hour {quarter}"
 
 
 def _wanted(before):
@@ -51,7 +51,7 @@ def _wanted(before):
 def _end_too_early(before):
     missing = before.quarters() * before.samples_of_quarter() - before.samples
     number = "1 sample is missing" if missing == 1 else f"{grouped(missing)} samples are missing"
-    return Cause(0, f"E after {_so_far(before)}; {_wanted(before)}",
+    return Cause(0, f"E {_so_far(before)}; {_wanted(before)}",
                  f"{number}, here or anywhere before (samples have no time, so the count shows it only at the end): "
                  "put what is missing in, or write the number of quarter hours that are there into the D line")
 
@@ -125,7 +125,7 @@ def _no_end(line, before):
         return encoding(line)
     if b"\r" in line.text:
         return Cause(None, "line ends of CR alone: lines end in LF", "tr '\\r' '\\n' <FILE >MENDED, and see that a line E ends it")
-    return Cause(None, f"the last line has no line end and is not E, after {_so_far(before)}: the input may be cut off",
+    return Cause(None, f"the last line has no line end and is not E, {_so_far(before)}: the input may be cut off",
                  "see that the input is whole; its last line is E, with a line end")
 
 
@@ -134,8 +134,8 @@ def _no_end_at_all(line, before):
         return Cause(None, "the input is empty", "look whether the right file was given")
     complete = before.samples == before.quarters() * before.samples_of_quarter()
     if complete:
-        return Cause(None, f"all samples are there ({_so_far(before)}), and no line E follows", "put a line E at the end, or: echo E >>FILE")
-    return Cause(None, f"the input ends after {_so_far(before)}; {_wanted(before)}: it may be cut off", "see that the input is whole, and ends with a line E")
+        return Cause(None, "all samples are there, and no line E follows", "put a line E at the end, or: echo E >>FILE")
+    return Cause(None, f"the input ends {_so_far(before)}; {_wanted(before)}: it may be cut off", "see that the input is whole, and ends with a line E")
 
 
 CAUSES = {1: _wrong_moment, 4: _date, 6: _too_many_contracts, 7: _identifier, 8: _taken, 10: _awards, 12: _price, 13: _power, 15: _no_end}

@@ -26,12 +26,14 @@ def cause_of_ill_form(line):
 
 def encoding(line):
     """an input that is not plain text of one byte a sign"""
-    if line.text.startswith((b"\xff\xfe", b"\xfe\xff")) or b"\0" in line.text:
+    if line.text.startswith((b"\xff\xfe", b"\xfe\xff")) or line.text.count(b"\0") * 3 > len(line.text):
         return Cause(None, "the file is in UTF-16 (a form that Windows programs call Unicode), two bytes for each sign",
                      "save it as plain text, ASCII or UTF-8 without byte order mark, or: iconv -f UTF-16 -t ASCII FILE >MENDED")
     if line.text.startswith(b"\xef\xbb\xbf"):
         return Cause(0, "a byte order mark stands before the first sign",
                      "save the file as ASCII, or as UTF-8 without byte order mark, or: tail -c +4 FILE >MENDED")
+    if b"\0" in line.text:
+        return Cause(None, "a zero byte in the line: the file may be damaged", "write the line anew")
     return None
 
 

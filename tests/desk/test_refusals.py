@@ -21,7 +21,7 @@ def changed(line, *now):
 # name: input, number, line, words of the message
 GROUNDS = {
     "1 contract after a sample": (lines(HEADER, SAMPLES[:3], CONTRACTS), 1, 5, ["C<TAB>P<TAB>A1", "a contract after 3 of 225 samples of quarter hour 0", "move the C lines up"]),
-    "1 second header": (lines(HEADER, HEADER), 1, 2, ["a second header, after no sample yet", "an input of its own"]),
+    "1 second header": (lines(HEADER, HEADER), 1, 2, ["a second header, before the first sample", "an input of its own"]),
     "1 second day": (lines(HEADER, SAMPLES, HEADER), 1, 227, ["a second header, after 225 of 225 samples of quarter hour 0"]),
     "1 no header": (lines(CONTRACTS), 1, 1, ["the first line has to be the header, and this one begins with C", "put the D line first"]),
     "1 end alone": (lines("E"), 1, 1, ["this one begins with E"]),
@@ -29,7 +29,7 @@ GROUNDS = {
                              ["E after 224 of 225 samples of quarter hour 3", "4 quarter hours", "900 samples in all", "1 sample is missing"]),
     "1 one sample too many": (lines(FOUR, CONTRACTS, SAMPLES * 4, "S\t1\t1", "E"), 1, 904, ["sample 226 of 225 of quarter hour 3, the last", "900 samples in all", "there twice"]),
     "1 a quarter hour too few": (lines(FOUR, SAMPLES * 3, "E"), 1, 677, ["E after 225 of 225 samples of quarter hour 2", "225 samples are missing"]),
-    "1 no sample": (lines(HEADER, "E"), 1, 2, ["E after no sample yet", "225 samples are missing"]),
+    "1 no sample": (lines(HEADER, "E"), 1, 2, ["E before the first sample", "225 samples are missing"]),
     "2": (changed(1, "D\t2017-02-20\t2\t-\t1"), 2, 1, ["interval not 1, 3 or 4", "field 3 (interval in seconds): 2", "write 1, 3 or 4"]),
     "3": (changed(1, "D\t2017-02-20\t4\t0\t1"), 3, 1, ["lot not 1 to 1,000,000 kW", "field 4 (lot in kW): 0"]),
     "4 no such day": (changed(1, "D\t2017-02-29\t4\t-\t1"), 4, 1, ["field 2 (date): 2017-02-29", "does not exist", "month 2017-02 has no day 29"]),
@@ -112,7 +112,7 @@ CAUSES = {
     "comment": (b"# a day\n" + GOOD, 14, 1, ["a comment"]),
     "a sheet": (program(GOOD), 14, 1, ["V begins a line of a sheet"]),
     "long line": (changed(10, "S\t1\t" + "1" * 1000), 14, 10, ["1,004 bytes, and at most 80 are read"]),
-    "control signs": (changed(10, "S\x1b[31m\t\x00\t\x7f"), 14, 10, ["S<0x1B>[31m<TAB><NUL><TAB><0x7F>"]),
+    "control signs": (changed(10, "S\x1b[31m\t\x00\t\x7f"), 14, 10, ["S<0x1B>[31m<TAB><NUL><TAB><0x7F>", "a zero byte in the line"]),
     "other bytes": (b"\xe4\n", 14, 1, ["<0xE4>"]),
 }
 
