@@ -1,7 +1,8 @@
 """Never a stale program: what runs is built, by a proof, from the sources and with the toolchain that are there.
 
-After a successful `rt check` a record beside the programs says what it was about: the kit, a digest of the sources, one of the program, and the size
-and the times of each of these files. A run compares the record with what is there: sizes and times, and the contents only where those differ."""
+After a successful `rt check` a record beside the programs says what it was about: the kit, a digest of the sources, one
+of the program, and the size and the times of each of these files. A run compares the record with what is there: sizes
+and times, and the contents only where those differ."""
 import contextlib
 import fcntl
 import os
@@ -55,7 +56,7 @@ def why_stale(name):
 
 
 def kit():
-    """What toolchain is there, or None. The file KIT-ID is what `rt version` prints; asking rt itself would take a good part of a start-up."""
+    """What toolchain is there, or None. The file KIT-ID is what `rt version` prints, which would take longer to ask."""
     command = next((path for path in _commands("rt") if os.access(path, os.X_OK)), None)
     if command is None:
         return None
@@ -64,7 +65,8 @@ def kit():
         with open(os.path.join(home, "KIT-ID"), encoding="utf-8") as file:
             return file.readline().strip()
     except OSError:
-        return subprocess.run([command, "version"], stdin=subprocess.DEVNULL, stdout=subprocess.PIPE).stdout.decode("utf-8", "replace").strip()
+        answer = subprocess.run([command, "version"], stdin=subprocess.DEVNULL, stdout=subprocess.PIPE)
+        return answer.stdout.decode("utf-8", "replace").strip()
 
 
 def _commands(name):
@@ -110,11 +112,11 @@ def _prove_and_record(name):
     try:
         _write_record(name, record)
     except OSError as error:
-        raise Trouble(f"the program {name} is built, and {RECORDS} can't be written to: {error.strerror}", NOT_BUILT) from None
+        raise Trouble(f"{name} is built, and {RECORDS} can't be written to: {error.strerror}", NOT_BUILT) from None
 
 
 def _give_up_foreign(name, sources):
-    """Has a program made anew that is gone or that something else wrote: rt looks at the sources alone, and would leave it as it is."""
+    """Has a program made anew that is gone or that something else wrote: rt looks at the sources alone."""
     known = _read_record(name)
     here = os.access(program_file(name), os.X_OK)
     if not here or (known and known["sources"] == sources and known["program"] != _digest([program_file(name)])):
@@ -151,7 +153,8 @@ def _digest(files):
     digest = hashlib.sha256()
     for path in files:
         with open(path, "rb") as file:
-            digest.update(f"{os.path.relpath(path, ROOT)} {hashlib.sha256(file.read()).hexdigest()}\n".encode("utf-8", "surrogateescape"))
+            contents = hashlib.sha256(file.read()).hexdigest()
+        digest.update(os.fsencode(f"{os.path.relpath(path, ROOT)} {contents}\n"))
     return digest.hexdigest()
 
 

@@ -13,12 +13,14 @@ STATUSES = (
 def table():
     """the exit statuses, as help prints them"""
     lines = [f"  {status}  {words}" for status, words in STATUSES]
-    return "\n".join(["exit status:", *lines, "  Ctrl-C and a reader that closed its end (| head) end it by their signal, as they end other programs"])
+    signals = "  Ctrl-C and a reader that closed its end (| head) end it by their signal, as they end other programs"
+    return "\n".join(["exit status:", *lines, signals])
 
 
 def readme_table():
     """the exit statuses, as the README has them"""
-    return "\n".join(["| Exit status | Meaning |", "|---|---|"] + [f"| {status} | {words} |" for status, words in STATUSES])
+    rows = [f"| {status} | {words} |" for status, words in STATUSES]
+    return "\n".join(["| Exit status | Meaning |", "|---|---|", *rows])
 
 
 class Trouble(Exception):

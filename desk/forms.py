@@ -8,7 +8,7 @@ WHOLE = "write a whole number without decimals or separators: 50.00 EUR per MWh 
 
 def faulty(form, data):
     """the cause in a field of a form, or None where the form is good"""
-    return {"number": number, "lot": lot, "date": date, "direction": direction, "identifier": lambda _: None}[form](data)
+    return FORMS[form](data)
 
 
 def number(data):
@@ -33,12 +33,12 @@ NUMBERS = (
     (r"\+[0-9]+", "a leading plus", "take the plus out"),
     (r"-0+", "minus zero", "write 0"),
     (r"-?0+[0-9]+", "a leading zero", "take the leading zeros out"),
-    (r"[\u2212\u2013\u2014][0-9]+", "a minus or dash that is not the plain sign", "write the plain minus -, as on the keyboard"),
+    (r"[\u2212\u2013\u2014][0-9]+", "a minus or dash that is not the plain sign", "write the plain minus -"),
     (r"[0-9]+-", "a minus after the number", "write the minus before the number"),
-    (r"-?[0-9]{10,}", "more than 9 digits", "write the number in kW, seconds or cent per MWh; none has more than 9 digits"),
+    (r"-?[0-9]{10,}", "more than 9 digits", "look whether the number is in kW, seconds or cent per MWh"),
     (r"-", "a hyphen for a number", "write the number; only the lot may be left out, as -"),
     (r"[-+]?[0-9.,]+[eE][-+]?[0-9]+", "a power of ten", "write all digits of the number"),
-    (r"[-+]?[0-9.,]+\s*[A-Za-z%/€]+", "a unit behind the number", "take the unit out; powers are in kW, prices in cent per MWh"),
+    (r"[-+]?[0-9.,]+\s*[A-Za-z%/€]+", "a unit behind the number", "take the unit out (kW, cent per MWh)"),
 )
 
 
@@ -55,7 +55,8 @@ def direction(data):
         return "the direction in lower case", f"write {data.decode().upper()}"
     if data.strip().upper() in (b"P", b"N"):
         return "a space beside the direction", "take the space out"
-    return f"{visible(data)} is no direction" if data else "the direction is missing", "write P for positive (extra infeed) or N for negative (extra offtake)"
+    cause = f"{visible(data)} is no direction" if data else "the direction is missing"
+    return cause, "write P for positive (extra infeed) or N for negative (extra offtake)"
 
 
 def date(data):
@@ -73,4 +74,11 @@ def date(data):
         return "a date in another form than YYYY-MM-DD", f"write {year}-{month.zfill(2)}-{day.zfill(2)}"
     if re.match(r"[0-9]{4}-[0-9]{2}-[0-9]{2}", text):
         return "something behind the date", f"write {text[:10]} alone"
-    return "this is no date of the form YYYY-MM-DD", "write four digits of the year, two of the month and two of the day, with hyphens between"
+    return "this is no date of the form YYYY-MM-DD", "write year, month and day with hyphens between, as 2017-02-20"
+
+
+def _any(_data):
+    """an identifier has no form: what is wrong with one is another refusal"""
+
+
+FORMS = {"number": number, "lot": lot, "date": date, "direction": direction, "identifier": _any}

@@ -11,8 +11,8 @@ from desk.visible import visible
 BLOCK = 1 << 16
 # Header and contracts stand within this many first bytes of any input that is not refused among them.
 HEAD = 1 << 16
-# The last bytes that are kept. The line that ends a run is among them: the program has read at most one block (64 KiB) past it, as much again may
-# wait in the pipe, and one block more was read here.
+# The last bytes that are kept. The line that ends a run is among them: the program has read at most one block (64 KiB)
+# past it, as much again may wait in the pipe, and one block more was read here.
 WINDOW = 1 << 20
 # As many bytes of a line are kept as a message can show.
 SHOWN = 256

@@ -1,4 +1,4 @@
-"""The form of an input in names: the kinds of lines, their fields, and the state that the accepted lines before a refused one leave."""
+"""The form of an input in names: the kinds of lines, their fields, and what stands before a refused line."""
 import collections
 
 # a field's name in messages, and what form it has: date, number, lot, direction or identifier
@@ -8,8 +8,8 @@ Kind = collections.namedtuple("Kind", "name fields")
 KINDS = {
     b"D": Kind("header", (Field("date", "date"), Field("interval in seconds", "number"), Field("lot in kW", "lot"),
                           Field("number of quarter hours", "number"))),
-    b"C": Kind("contract", (Field("direction", "direction"), Field("identifier", "identifier"), Field("award in kW", "number"),
-                            Field("price in cent per MWh", "number"))),
+    b"C": Kind("contract", (Field("direction", "direction"), Field("identifier", "identifier"),
+                            Field("award in kW", "number"), Field("price in cent per MWh", "number"))),
     b"S": Kind("sample", (Field("setpoint in kW", "number"), Field("actual in kW", "number"))),
     b"E": Kind("end", ()),
 }
@@ -44,3 +44,7 @@ class Before:
     def samples_of_quarter(self):
         """how many samples a quarter hour has"""
         return 900 // int(self.header[2])
+
+    def samples_wanted(self):
+        """how many samples the header asks for"""
+        return self.quarters() * self.samples_of_quarter()

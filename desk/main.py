@@ -65,11 +65,15 @@ def _run(words):
     if command not in COMMANDS:
         raise Trouble(f"there is no command {visible(os.fsencode(command))}; see fireboxer help")
     module = importlib.import_module(f"desk.commands.{command}")
-    # a fixed width, since asking for the terminal's takes longer than all else here
-    parser = Parser(prog=f"fireboxer {command}", description=f"{COMMANDS[command]}", epilog=endings.table(), allow_abbrev=False,
-                    formatter_class=lambda prog: argparse.RawDescriptionHelpFormatter(prog, width=120))
+    parser = Parser(prog=f"fireboxer {command}", description=COMMANDS[command], epilog=endings.table(),
+                    allow_abbrev=False, formatter_class=_formatter)
     module.arguments(parser)
     return module.run(parser.parse_args(rest))
+
+
+def _formatter(prog):
+    """with a fixed width, since asking for the terminal's takes longer than all else that is done at the start"""
+    return argparse.RawDescriptionHelpFormatter(prog, width=120)
 
 
 def _help():

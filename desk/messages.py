@@ -12,7 +12,8 @@ def refusal(source, refused):
     if line:
         cause = cause_of(refused.number, line, Before(source, refused.line))
         mend = cause.mend or remedy(refused.number)
-        parts += [_shown(line), _field(line, cause.field), cause.words and f"cause: {cause.words}", f"to mend it: {mend}"]
+        parts += [_shown(line), _field(line, cause.field)]
+        parts += [cause.words and f"cause: {cause.words}", f"to mend it: {mend}"]
     return "\n  ".join(filter(None, parts))
 
 

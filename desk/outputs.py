@@ -11,6 +11,7 @@ from desk.visible import visible
 class StandardOutput:
     """It takes what there is as it comes, and what was written stands."""
 
+    whole = False
     write = staticmethod(print_out)
 
     def open(self):
@@ -25,6 +26,8 @@ class StandardOutput:
 
 class Device:
     """A device, a pipe or another thing that no file can take the place of: it takes what there is as it comes."""
+
+    whole = False
 
     def __init__(self, path):
         self.path = path
@@ -51,6 +54,8 @@ class Device:
 
 class WholeFile:
     """A draft beside the file that is wanted, which takes its place when all is written and is gone otherwise."""
+
+    whole = True
 
     def __init__(self, path):
         self.path = path

@@ -1,4 +1,4 @@
-"""Runs a proved program on an input, in blocks: nothing is done for each line, and no more is held than a few blocks."""
+"""Runs a proved program on an input, in blocks: nothing is done for each line, and no more is held than a few."""
 import collections
 import os
 import select
@@ -9,6 +9,7 @@ from desk.building import program_file
 from desk.endings import NOT_BUILT, Trouble
 from desk.inputs import BLOCK
 from desk.places import ROOT
+from desk.streams import say
 
 # The last bytes of a sheet that are kept: the longest line is far shorter.
 TAIL = 4096
@@ -17,8 +18,18 @@ TAIL = 4096
 Refused = collections.namedtuple("Refused", "line number")
 
 
+def accepted(name, source, take):
+    """runs a program as `run` does, says why where it refuses the input, and answers whether it accepted it"""
+    refused = run(name, source, take)
+    if refused:
+        # imported here, since a run that is accepted needs none of it
+        from desk.messages import refusal
+        say(refusal(source, refused))
+    return not refused
+
+
 def run(name, source, take):
-    """Runs the program on an input and hands what it prints to `take`, block by block. Answers the refusal that ended the run, or None."""
+    """Runs a program and hands what it prints to `take`, block by block. Answers the refusal that ended it, or None."""
     process = None
     try:
         with signals.held():
@@ -42,7 +53,7 @@ def _command(name):
 
 
 def _end(process):
-    """Leaves nothing behind, whatever stopped the run: the program goes first, so that it takes no early end for the end of its input."""
+    """Leaves nothing behind. The program goes first, so that it takes no early end for the end of its input."""
     if process.poll() is None:
         process.kill()
         process.wait()

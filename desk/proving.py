@@ -42,15 +42,15 @@ def _show(line):
 
 @contextlib.contextmanager
 def _started(command):
-    """A command in a group of its own, which is ended with all that it started, and a folder for temporary files, which goes with it."""
+    """A command with a folder for its temporary files. When the block is left, both are gone, with all it started."""
     scratch = process = None
     try:
         with signals.held():
             scratch = tempfile.mkdtemp(prefix="fireboxer-")
             # the toolchain runs programs as another user, who has to get through
             os.chmod(scratch, 0o711)
-            process = subprocess.Popen(command, cwd=ROOT, stdin=subprocess.DEVNULL, stdout=subprocess.PIPE, stderr=subprocess.STDOUT,
-                                       start_new_session=True, env=dict(os.environ, TMPDIR=scratch))
+            process = subprocess.Popen(command, cwd=ROOT, env=dict(os.environ, TMPDIR=scratch), start_new_session=True,
+                                       stdin=subprocess.DEVNULL, stdout=subprocess.PIPE, stderr=subprocess.STDOUT)
         yield process
     finally:
         if process:

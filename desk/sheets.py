@@ -1,4 +1,4 @@
-"""A sheet for people and for spreadsheets, made from its text alone. The only sums are those of lines that stand in the sheet."""
+"""A sheet for people and for spreadsheets, from its text alone. The only sums are those of lines that stand on it."""
 import collections
 
 from desk.visible import grouped
@@ -7,14 +7,18 @@ from desk.visible import grouped
 Column = collections.namedtuple("Column", "short name unit")
 
 COLUMNS = (
-    Column("SO", "asked for", "kWh"), Column("IS", "delivered", "kWh"), Column("AK", "accepted", "kWh"), Column("ME", "surplus", "kWh"),
-    Column("MI", "shortfall", "kWh"), Column("ZU", "handed out", "kWh"), Column("UN", "under-delivery", "kWh"), Column("AB", "billed", "kWh"),
+    Column("SO", "asked for", "kWh"), Column("IS", "delivered", "kWh"), Column("AK", "accepted", "kWh"),
+    Column("ME", "surplus", "kWh"), Column("MI", "shortfall", "kWh"), Column("ZU", "handed out", "kWh"),
+    Column("UN", "under-delivery", "kWh"), Column("AB", "billed", "kWh"),
     Column("", "fee", "cent"), Column("", "penalty", "cent"),
 )
 ME, FEE = 3, 8
 DIRECTIONS = {"P": "Positive (P): extra infeed", "N": "Negative (N): extra offtake"}
+NOTE = """The operator pays a fee above 0 to the pool, the pool pays one below 0 to the operator, and owes penalties.
+The lines of contracts are rounded on their own and need not add up to the pool's.
+"""
 
-# A line Q or K: contract is empty on a Q line; the figures are as many as there are columns, None where the line has none.
+# A line Q or K: no contract on a Q line; as many figures as there are columns, None where the line has none.
 Row = collections.namedtuple("Row", "quarter direction contract figures")
 Sheet = collections.namedtuple("Sheet", "day interval lot rows quarters fees penalties")
 
@@ -40,14 +44,16 @@ def csv(sheet, separator):
     """a row for each line Q, K and T, with the day on each, and no decimals"""
     lead = [sheet.day, sheet.interval, sheet.lot]
     for row in sheet.rows:
-        yield _joined(["K" if row.contract else "Q", *lead, row.quarter, row.direction, row.contract, *row.figures], separator)
+        kind = "K" if row.contract else "Q"
+        yield _joined([kind, *lead, row.quarter, row.direction, row.contract, *row.figures], separator)
     yield _joined(["T", *lead, None, None, None, *[None] * FEE, sheet.fees, sheet.penalties], separator)
 
 
 def csv_header(separator):
     """the names of the columns of the csv"""
     figures = [f"{column.short or column.name} {column.unit}" for column in COLUMNS]
-    return _joined(["line", "day", "interval s", "lot kW", "quarter hour", "direction", "contract", *figures], separator)
+    lead = ["line", "day", "interval s", "lot kW", "quarter hour", "direction", "contract"]
+    return _joined([*lead, *figures], separator)
 
 
 def _joined(cells, separator):
@@ -56,14 +62,18 @@ def _joined(cells, separator):
 
 def table(sheet):
     """the sheet with aligned columns, a part for each direction with its sums, and the sums of the whole"""
-    hours = "1 quarter hour" if sheet.quarters == 1 else f"{sheet.quarters} quarter hours"
-    yield f"Settlement of {sheet.day}: {hours}, interval {sheet.interval} s, minimum lot {grouped(sheet.lot)} kW\n"
+    yield f"Settlement of {sheet.day}: {quarter_hours(sheet)}, interval {sheet.interval} s, "
+    yield f"minimum lot {grouped(sheet.lot)} kW\n"
     for direction, name in DIRECTIONS.items():
         rows = [row for row in sheet.rows if row.direction == direction]
         yield f"\n{name}\n\n"
         yield from _aligned([*_headings(), *map(_cells, rows), ["sum", "pool", *_sums(rows)]])
-    yield f"\nIn all: fees {grouped(sheet.fees)} cent, penalties {grouped(sheet.penalties)} cent. A fee above 0 is paid by the operator to the pool, one below 0 "
-    yield "by the pool to the operator;\na penalty is owed by the pool. The lines of contracts are rounded on their own and need not add up to the pool's.\n"
+    yield f"\nIn all: fees {grouped(sheet.fees)} cent, penalties {grouped(sheet.penalties)} cent.\n\n{NOTE}"
+
+
+def quarter_hours(sheet):
+    """how many quarter hours a sheet has, in words"""
+    return "1 quarter hour" if sheet.quarters == 1 else f"{sheet.quarters} quarter hours"
 
 
 def _headings():
@@ -94,5 +104,5 @@ def _aligned(lines):
     for place, line in enumerate(lines):
         if place in (3, len(lines) - 1):
             yield rule
-        cells = [cell.ljust(width) if column == 1 else cell.rjust(width) for column, (cell, width) in enumerate(zip(line, widths))]
-        yield "  ".join(cells).rstrip() + "\n"
+        quarter, contract, *figures = (cell.rjust(width) for cell, width in zip(line, widths))
+        yield "  ".join([quarter, contract.strip().ljust(widths[1]), *figures]).rstrip() + "\n"

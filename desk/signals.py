@@ -1,4 +1,4 @@
-"""Signals that ask to stop. They raise Stopped wherever the front end is, but not while it starts a process: nobody would end that one."""
+"""Signals that ask to stop. They raise Stopped, but not while a process is started: nobody would end that one."""
 import contextlib
 import os
 import signal

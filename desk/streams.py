@@ -1,4 +1,4 @@
-"""Standard output and standard error, written without a buffer of their own, so that every failure is seen where it happens."""
+"""Standard output and standard error, written without a buffer, so that every failure is seen where it happens."""
 import os
 import select
 
@@ -10,7 +10,7 @@ CLOSED = set()
 
 
 def hold_closed_streams():
-    """puts /dev/null in place of standard streams that the caller closed, so that no file that is opened later is taken for one"""
+    """puts /dev/null in place of streams that the caller closed, so that no file opened later is taken for one"""
     for descriptor in (STANDARD_INPUT, STANDARD_OUTPUT, STANDARD_ERROR):
         try:
             os.fstat(descriptor)

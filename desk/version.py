@@ -14,7 +14,8 @@ def tell():
     lines = [f"fireboxer, commit {_commit()}", f"toolchain: {kit() or 'missing (there is no command rt on the PATH)'}"]
     for name in PROGRAMS:
         reason = why_stale(name)
-        lines.append(f"program {name}: " + (f"{reason}; the next run proves and builds it" if reason else "built from what is there"))
+        how = f"{reason}; the next run proves and builds it" if reason else "built from what is there"
+        lines.append(f"program {name}: {how}")
     print_out("".join(f"{line}\n" for line in lines).encode())
     return ACCEPTED
 
@@ -23,13 +24,15 @@ def _commit():
     commit = _git("rev-parse", "--short=12", "HEAD")
     if commit is None or _git("rev-parse", "--show-prefix") != "":
         return "unknown (git does not tell)"
-    return commit + (", with changes that are not committed" if _git("status", "--porcelain", "--untracked-files=no") else "")
+    changed = _git("status", "--porcelain", "--untracked-files=no")
+    return f"{commit}, with changes that are not committed" if changed else commit
 
 
 def _git(*words):
     """what git answers, or None"""
     try:
-        answer = subprocess.run(["git", "-C", ROOT, *words], stdin=subprocess.DEVNULL, stdout=subprocess.PIPE, stderr=subprocess.DEVNULL)
+        answer = subprocess.run(["git", "-C", ROOT, *words], stdin=subprocess.DEVNULL, stdout=subprocess.PIPE,
+                                stderr=subprocess.DEVNULL)
     except OSError:
         return None
     return answer.stdout.decode("utf-8", "replace").strip() if answer.returncode == 0 else None

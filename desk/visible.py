@@ -1,4 +1,4 @@
-"""Bytes of an input as people can read them: what can't be seen is named, and nothing reaches the terminal that it would obey."""
+"""Bytes as people can read them: what can't be seen is named, and nothing reaches the terminal that it would obey."""
 
 NAMES = {"\t": "<TAB>", "\r": "<CR>", "\0": "<NUL>", "\ufeff": "<BOM>", "\u00a0": "<NBSP>", "\x1a": "<CTRL-Z>"}
 # the most signs of a line that a message shows

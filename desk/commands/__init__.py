@@ -1,4 +1,6 @@
-"""The commands: one table, and a module of the command's name for each, with `arguments(parser)` and `run(options)`, which answers the exit status."""
+"""The commands: one table, and a module of its name for each, with `arguments(parser)` and `run(options)`.
+
+`arguments` adds the words that the command takes; `run` answers the exit status."""
 
 COMMANDS = {
     "settle": "settle inputs and print their sheets",

@@ -5,7 +5,7 @@ from desk.endings import ACCEPTED, REFUSED
 from desk.inputs import Input, look_at
 from desk.layout import Before
 from desk.refusals import help_table
-from desk.streams import print_out, say
+from desk.streams import print_out
 from desk.visible import grouped
 
 
@@ -21,10 +21,7 @@ def run(options):
     ensure_built("settle")
     sheet = bytearray()
     with Input(options.file) as source:
-        refused = programs.run("settle", source, sheet.extend)
-        if refused:
-            from desk.messages import refusal
-            say(refusal(source, refused))
+        if not programs.accepted("settle", source, sheet.extend):
             return REFUSED
         print_out("".join(_described(source, sheets.read(sheet))).encode("utf-8", "surrogateescape"))
     return ACCEPTED
@@ -42,14 +39,15 @@ def _described(source, sheet):
     for direction in ("P", "N"):
         yield f"  contracts  {direction}: {_contracts(before.of_direction(direction.encode()))}\n"
     yield f"  samples    {grouped(before.samples)}\n"
-    yield f"  covered    {grouped(sheet.quarters * 15)} minutes, {sheet.quarters} quarter hour{'s' * (sheet.quarters != 1)}\n"
-    yield f"  end        line {grouped(end)}{', and more follows that is not read' if source.goes_on_after_end() else ''}\n"
+    yield f"  covered    {grouped(sheet.quarters * 15)} minutes, {sheets.quarter_hours(sheet)}\n"
+    more = ", and more follows that is not read" if source.goes_on_after_end() else ""
+    yield f"  end        line {grouped(end)}{more}\n"
 
 
 def _contracts(contracts):
     if not contracts:
         return "none"
     award = grouped(sum(contract.award for contract in contracts))
-    prices = f"{grouped(contracts[0].price)} to {grouped(contracts[-1].price)}" if len(contracts) > 1 else grouped(contracts[0].price)
+    prices = " to ".join(dict.fromkeys(grouped(contract.price) for contract in (contracts[0], contracts[-1])))
     names = ", ".join(contract.identifier.decode() for contract in contracts)
     return f"{len(contracts)} ({names}), {award} kW awarded, {prices} cent per MWh"

@@ -15,13 +15,18 @@ ENDINGS = {"sheet": ".sheet", "table": ".table", "csv": ".csv"}
 def arguments(parser):
     """the words that settle takes"""
     parser.add_argument("files", nargs="*", metavar="FILE", help="an input; - or none is standard input")
-    parser.add_argument("-o", "--output", metavar="PLACE", help="write to this file, or into this folder a file for each input; "
+    parser.add_argument("-o", "--output", metavar="PLACE",
+                        help="write to this file, or into this folder a file for each input; "
                         "a file is written whole or, where the input is refused, not at all")
-    parser.add_argument("--join", action="store_true", help="several inputs: their sheets one after the other, in one output")
+    parser.add_argument("--join", action="store_true",
+                        help="several inputs: their sheets one after the other, in one output")
     form = parser.add_mutually_exclusive_group()
-    form.add_argument("--table", dest="form", action="store_const", const="table", default="sheet", help="print a table that people can read")
-    form.add_argument("--csv", dest="form", action="store_const", const="csv", help="print rows for a spreadsheet, without decimals")
-    parser.add_argument("--separator", choices=[";", ","], help="the sign between the cells of --csv: ; (unless given) or ,")
+    form.add_argument("--table", dest="form", action="store_const", const="table", default="sheet",
+                      help="print a table that people can read")
+    form.add_argument("--csv", dest="form", action="store_const", const="csv",
+                      help="print rows for a spreadsheet, without decimals")
+    parser.add_argument("--separator", choices=[";", ","],
+                        help="the sign between the cells of --csv: ; (unless given) or ,")
     parser.epilog = f"{help_table()}\n\n{parser.epilog}"
 
 
@@ -86,20 +91,16 @@ def _settle_to(place, paths, options):
                 heading = ""
         if status == ACCEPTED:
             output.finish()
-        elif place not in (None, "-"):
+        elif output.whole:
             say(f"{called(place)} is not written, since an input was refused")
     return status
 
 
 def _settle(path, take):
-    """settles one input, and hands its sheet to `take` as it comes or, without one, answers it whole; None where the input is refused"""
+    """Settles one input, and hands its sheet to `take` as it comes or, without one, answers it whole. None: refused."""
     sheet = bytearray()
     with Input(path) as source:
-        refused = programs.run("settle", source, take or sheet.extend)
-        if refused:
-            # imported here, since a run that is accepted needs none of it
-            from desk.messages import refusal
-            say(refusal(source, refused))
+        if not programs.accepted("settle", source, take or sheet.extend):
             return None
         if source.goes_on_after_end():
             say(f"{source.name}: more follows the end line (line {source.end_line_number()}), and is not read: "
