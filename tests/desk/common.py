@@ -1,10 +1,12 @@
 """What the tests of the front end share: how it is called, and inputs to call it with."""
+import contextlib
 import os
 import pathlib
 import signal
 import subprocess
 import sys
 import tempfile
+import time
 import unittest
 
 ROOT = pathlib.Path(__file__).resolve().parents[2]
@@ -38,6 +40,17 @@ def program(data):
     return subprocess.run([ROOT / "tools" / "program", "settle"], input=data, stdout=subprocess.PIPE, check=True).stdout
 
 
+def processes(wanted):
+    """the ids of the running processes for whose group and command line something holds"""
+    found = []
+    for folder in pathlib.Path("/proc").glob("[0-9]*"):
+        with contextlib.suppress(OSError):
+            state, _, group = (folder / "stat").read_text().rpartition(")")[2].split()[:3]
+            if state != "Z" and wanted(int(group), (folder / "cmdline").read_bytes()):
+                found.append(int(folder.name))
+    return found
+
+
 class FrontEnd(unittest.TestCase):
     """A test in a folder of its own, from which the front end is called."""
 
@@ -48,12 +61,27 @@ class FrontEnd(unittest.TestCase):
 
     def call(self, *words, command=FIREBOXER, **options):
         """runs the front end; the answer has returncode, stdout (bytes) and stderr (text)"""
-        options.setdefault("stdin", None if "input" in options else subprocess.DEVNULL)
-        options = {name: value for name, value in options.items() if value is not None}
-        answer = subprocess.run([command, *words], stdout=options.pop("stdout", subprocess.PIPE), stderr=subprocess.PIPE, cwd=options.pop("cwd", self.folder),
-                                timeout=60, **options)
+        if "input" not in options:
+            options.setdefault("stdin", subprocess.DEVNULL)
+        options.setdefault("cwd", self.folder)
+        pipe = subprocess.PIPE
+        answer = subprocess.run([command, *words], stdout=pipe, stderr=pipe, timeout=60, **options)
         answer.stderr = answer.stderr.decode()
         return answer
+
+    def start(self, *words, command=FIREBOXER, **options):
+        """starts the front end as the leader of a group, with pipes"""
+        options.setdefault("stdin", subprocess.PIPE)
+        return subprocess.Popen([command, *words], stdout=subprocess.PIPE, stderr=subprocess.PIPE, cwd=self.folder,
+                                start_new_session=True, **options)
+
+    def wait_for(self, condition):
+        """waits until something is so"""
+        for _ in range(1000):
+            if condition():
+                return
+            time.sleep(0.01)
+        self.fail("it did not happen")
 
     def shell(self, script):
         """runs a line of bash, with $fireboxer, $example and $day"""

@@ -1,15 +1,14 @@
-"""Never a stale program, and three reasons for three failures: in a small repository with a program of its own, by the real toolchain."""
+"""Never a stale program, and a reason for each failure: in a small repository of its own, by the real toolchain."""
 import os
-import pathlib
 import shutil
 import signal
-import subprocess
 import sys
 import tempfile
-import time
 import unittest
 
-from common import ROOT, FrontEnd
+from common import ROOT, FrontEnd, processes
+
+NO_TOOLCHAIN = {"PATH": "/nonexistent"}
 
 CODE = """use libc::STDOUT_FILENO;
 
@@ -68,30 +67,38 @@ class Stale(Repository):
     """What runs is built from what is there."""
 
     def test_a_life(self):
-        self.assertIn("program settle: the program settle is not built yet; the next run proves and builds it", self.version())
-        answer = self.settle()
-        self.prints(0, answer)
-        self.assertIn("the program settle is not built yet: proving and building it", answer.stderr)
-        self.assertIn("rt: settle proved", answer.stderr)
+        self.assertIn("the program settle is not built yet; the next run proves and builds it", self.version())
+        self.first_runs()
         self.assertIn("program settle: built from what is there", self.version())
         self.quiet_runs()
         self.changed_source()
         self.foreign_program()
         self.failing_proof()
 
+    def first_runs(self):
+        """of two runs at once, one builds and the other waits"""
+        both = [self.start("settle", "/dev/null", command=self.command) for _ in range(2)]
+        answers = [process.communicate(timeout=60) for process in both]
+        self.assertEqual([out for out, _ in answers], [b"T\t0\t0\t0\n"] * 2, answers)
+        said = b"".join(said for _, said in answers)
+        self.assertEqual(said.count(b"the program settle is not built yet: proving and building it"), 1)
+        self.assertEqual(said.count(b"rt: settle proved"), 1)
+        self.assertEqual(said.count(b"another run is building; waiting for it"), 1)
+
     def quiet_runs(self):
-        """nothing is built, and nothing said, where nothing changed: not at once, not after files were touched, not without a toolchain"""
+        """nothing is built or said where nothing changed: at once, after files were touched, without a toolchain"""
         self.assertEqual(self.settle().stderr, "")
         os.utime(self.folder / "crates.txt")
         self.assertEqual(self.settle().stderr, "")
-        self.assertEqual(self.settle(env={"PATH": "/nonexistent"}).stderr, "")
+        answer = self.call(self.command, "settle", "/dev/null", command=sys.executable, env=NO_TOOLCHAIN)
+        self.assertEqual((answer.returncode, answer.stderr), (0, ""))
         (self.folder / "crates" / "settle" / "must-fail").mkdir()
         (self.folder / "crates" / "settle" / "must-fail" / "some.edit").write_text("an edit is no source")
         self.assertEqual(self.settle().stderr, "")
 
     def changed_source(self):
         self.write(5)
-        self.assertIn("the sources changed since the program settle was built; the next run proves and builds it", self.version())
+        self.assertIn("the sources changed since the program settle was built; the next run proves", self.version())
         answer = self.settle()
         self.prints(5, answer)
         self.assertIn("the sources changed since the program settle was built: proving and building it", answer.stderr)
@@ -105,7 +112,7 @@ class Stale(Repository):
     def failing_proof(self):
         (self.folder / "crates" / "settle" / "src" / "main.rt").write_text(UNPROVED)
         answer = self.settle()
-        self.fails("the proof fails, so nothing is built: settle; target/log/settle.out has what the prover said", answer)
+        self.fails("the proof fails, so nothing is built: settle; target/log/settle.out has what the", answer)
         self.assertTrue((self.folder / "target" / "log" / "settle.out").read_text())
 
 
@@ -113,11 +120,8 @@ class NotBuilt(Repository):
     """Why nothing was built."""
 
     def test_toolchain_missing(self):
-        answer = self.settle(env={"PATH": "/nonexistent"}) if pathlib.Path("/usr/bin/python3").exists() else self.without_toolchain()
+        answer = self.call(self.command, "settle", "/dev/null", command=sys.executable, env=NO_TOOLCHAIN)
         self.fails("the Rattle toolchain is missing: its command rt must be on the PATH", answer)
-
-    def without_toolchain(self):
-        return self.call(self.command, "settle", "/dev/null", command=sys.executable, env={"PATH": "/nonexistent"})
 
     def test_folder_that_can_not_be_written(self):
         # a file in the folder's place, since root may write to any folder
@@ -138,22 +142,17 @@ class Stopped(Repository):
     def test_nothing_is_left(self):
         room = tempfile.TemporaryDirectory()
         self.addCleanup(room.cleanup)
-        process = subprocess.Popen([self.command, "settle", "/dev/null"], stdout=subprocess.PIPE, stderr=subprocess.PIPE, start_new_session=True,
-                                   env={**os.environ, "TMPDIR": room.name})
-        for _ in range(1000):
-            if b"rattle" in self.busy():
-                break
-            time.sleep(0.01)
+        process = self.start("settle", "/dev/null", command=self.command, env={**os.environ, "TMPDIR": room.name})
+        self.wait_for(self.provers)
         os.killpg(process.pid, signal.SIGINT)
         out, said = process.communicate(timeout=20)
         self.assertEqual((process.returncode, out), (-signal.SIGINT, b""), said)
         self.assertIn(b"stopping the proof", said)
-        self.assertEqual((self.busy(), os.listdir(room.name)), (b"", []))
+        self.assertEqual((self.provers(), os.listdir(room.name)), ([], []))
 
-    def busy(self):
-        """the processes that have to do with this repository"""
-        found = subprocess.run(["ps", "-eo", "args="], stdout=subprocess.PIPE, check=True).stdout.split(b"\n")
-        return b"\n".join(line for line in found if os.fsencode(self.folder / "crates") in line)
+    def provers(self):
+        """the processes that prove this repository's crate"""
+        return processes(lambda group, command: os.fsencode(self.folder / "crates") in command)
 
 
 class Version(FrontEnd):
@@ -161,8 +160,8 @@ class Version(FrontEnd):
 
     @unittest.skipUnless((ROOT / ".git").exists() and shutil.which("git"), "no git here")
     def test_commit_and_kit(self):
-        commit = subprocess.run(["git", "-C", ROOT, "rev-parse", "--short=12", "HEAD"], stdout=subprocess.PIPE).stdout.decode().strip()
-        kit = subprocess.run(["rt", "version"], stdout=subprocess.PIPE).stdout.decode().strip()
+        commit = self.call("-C", ROOT, "rev-parse", "--short=12", "HEAD", command="git").stdout.decode().strip()
+        kit = self.call("version", command="rt").stdout.decode().strip()
         answer = self.call("--version")
         self.assertEqual((answer.returncode, answer.stderr), (0, ""))
         self.assertIn(f"commit {commit or 'unknown'}", answer.stdout.decode())

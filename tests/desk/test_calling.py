@@ -2,11 +2,9 @@
 import os
 import pathlib
 import signal
-import subprocess
-import time
 import tty
 
-from common import DAY, DAY_SHEET, EXAMPLE, EXAMPLE_SHEET, FIREBOXER, GOOD, HEADER, FrontEnd, lines, program
+from common import DAY, DAY_SHEET, EXAMPLE, EXAMPLE_SHEET, FIREBOXER, GOOD, HEADER, FrontEnd, lines, processes, program
 
 BAD = lines(HEADER, "X")
 
@@ -40,11 +38,11 @@ class Inputs(FrontEnd):
 
     def test_a_pipe_that_stays_open_is_not_waited_for(self):
         for data, status in ((BAD, 1), (GOOD, 0)):
-            process = subprocess.Popen([FIREBOXER, "settle"], stdin=subprocess.PIPE, stdout=subprocess.DEVNULL, stderr=subprocess.DEVNULL)
+            process = self.start("settle")
             process.stdin.write(data)
             process.stdin.flush()
             self.assertEqual(process.wait(timeout=10), status)
-            process.stdin.close()
+            process.communicate()
 
     def test_names_that_look_like_options(self):
         self.file("-odd", EXAMPLE.read_bytes())
@@ -52,7 +50,8 @@ class Inputs(FrontEnd):
         self.settles(self.call("settle", "./-odd"))
 
     def test_names_with_strange_signs(self):
-        for name, shown in (("a b.txt", "a b.txt"), ("ä.txt", "ä.txt"), ("new\nline", "new<0x0A>line"), (b"\xff\x1b.txt", "<0xFF><0x1B>.txt")):
+        for name, shown in (("a b.txt", "a b.txt"), ("ä.txt", "ä.txt"), ("new\nline", "new<0x0A>line"),
+                            (b"\xff\x1b.txt", "<0xFF><0x1B>.txt")):
             path = os.path.join(os.fsencode(self.folder), os.fsencode(name))
             pathlib.Path(os.fsdecode(path)).write_bytes(BAD)
             answer = self.call("settle", name)
@@ -60,7 +59,8 @@ class Inputs(FrontEnd):
             self.assertIn(f"fireboxer: {shown}, line 2: refusal 14", answer.stderr)
 
     def test_what_can_not_be_read_is_no_refusal(self):
-        for word, reason in ((".", "it is a folder"), ("none", "No such file"), ("/proc/self/mem", "Input/output error"), (f"{EXAMPLE}/x", "Not a directory")):
+        for word, reason in ((".", "it is a folder"), ("none", "No such file"),
+                             ("/proc/self/mem", "Input/output error"), (f"{EXAMPLE}/x", "Not a directory")):
             answer = self.call("settle", word)
             self.assertEqual((answer.returncode, answer.stdout), (2, b""))
             self.assertIn(f"{word} can't be read: {reason}", answer.stderr)
@@ -73,7 +73,7 @@ class Inputs(FrontEnd):
         # the master of a terminal whose other side is gone gives an error after the last bytes
         master, slave = os.openpty()
         tty.setraw(slave)
-        process = subprocess.Popen([FIREBOXER, "settle"], stdin=master, stdout=subprocess.PIPE, stderr=subprocess.PIPE)
+        process = self.start("settle", stdin=master)
         os.write(slave, GOOD[:1000])
         first = process.stdout.readline()
         os.close(slave)
@@ -139,12 +139,13 @@ class Outputs(FrontEnd):
 
     def test_what_can_not_be_written(self):
         self.file("plain", b"")
-        for words, reason in ((["-o", "/dev/full"], "No space left"), (["-o", "none/a"], "No such file"), (["-o", "plain/a"], "Not a directory"),
-                              (["-o", "none/"], "there is no such folder"), (["-o", "/proc/a"], "No such file")):
-            answer = self.call("settle", EXAMPLE, *words)
+        for place, reason in (("/dev/full", "No space left"), ("none/a", "No such file"), ("/proc/a", "No such file"),
+                              ("plain/a", "Not a directory"), ("none/", "there is no such folder")):
+            answer = self.call("settle", EXAMPLE, "-o", place)
             self.assertEqual((answer.returncode, answer.stdout), (2, b""))
-            self.assertIn(f"{words[1]} can't be written: {reason}", answer.stderr)
-        for command in ("settle $example", "settle --table $example", "inspect $example", "help", "settle --help", "--version"):
+            self.assertIn(f"{place} can't be written: {reason}", answer.stderr)
+        for command in ("settle $example", "settle --table $example", "inspect $example", "help", "settle --help",
+                        "--version"):
             answer = self.shell(f'"$fireboxer" {command} >/dev/full')
             self.assertEqual(answer.returncode, 2, command)
             self.assertIn("standard output can't be written: No space left", answer.stderr)
@@ -175,8 +176,9 @@ class Words(FrontEnd):
     """Misuse and help."""
 
     def test_misuse(self):
-        for words in (["none"], ["settle", "-x"], ["settle", "--table", "--csv"], ["settle", "--separator", ","], ["settle", "-", "-"],
-                      ["settle", "--csv", "--separator", "x"], ["inspect", EXAMPLE, EXAMPLE], ["settle", "-o"], ["--none"], ["help", "none"]):
+        for words in (["none"], ["settle", "-x"], ["settle", "--table", "--csv"], ["settle", "--separator", ","],
+                      ["settle", "-", "-"], ["settle", "--csv", "--separator", "x"], ["inspect", EXAMPLE, EXAMPLE],
+                      ["settle", "-o"], ["--none"], ["help", "none"]):
             answer = self.call(*words)
             self.assertEqual((answer.returncode, answer.stdout), (2, b""), words)
             self.assertTrue(answer.stderr.startswith("fireboxer: "), answer.stderr)
@@ -199,27 +201,24 @@ class Signals(FrontEnd):
     """Stopped midway, it leaves nothing behind."""
 
     def stopped(self, number, whole_group):
-        process = subprocess.Popen([FIREBOXER, "settle", "-o", "a.sheet"], stdin=subprocess.PIPE, stderr=subprocess.PIPE, cwd=self.folder, start_new_session=True)
-        process.stdin.write(DAY.read_bytes()[:40000])
-        process.stdin.flush()
-        self.wait_for(lambda: os.listdir(self.folder))
-        self.wait_for(lambda: len(self.group(process.pid)) == 2)
+        process = self.started("settle", "-o", "a.sheet")
+        self.assertEqual(len(os.listdir(self.folder)), 1)
         (os.killpg if whole_group else os.kill)(process.pid, number)
         _, said = process.communicate(timeout=10)
         self.assertEqual((process.returncode, said), (-number, b""))
         self.assertEqual(os.listdir(self.folder), [])
-        self.assertEqual(self.group(process.pid), [])
+        self.assertEqual(processes(lambda group, _: group == process.pid), [])
 
-    def wait_for(self, condition):
-        for _ in range(500):
-            if condition():
-                return
-            time.sleep(0.01)
-        self.fail("it did not happen")
+    def started(self, *words):
+        """the front end in the midst of a day, with its program"""
+        process = self.start(*words)
+        process.stdin.write(DAY.read_bytes()[:40000])
+        process.stdin.flush()
+        self.wait_for(lambda: self.program_of(process))
+        return process
 
-    def group(self, leader):
-        found = subprocess.run(["ps", "-eo", "pgid=,pid="], stdout=subprocess.PIPE, check=True).stdout.split(b"\n")
-        return [line for line in found if line.split()[:1] == [str(leader).encode()]]
+    def program_of(self, process):
+        return processes(lambda group, command: group == process.pid and b"bin/settle" in command)
 
     def test_signals(self):
         for number, whole_group in ((signal.SIGINT, True), (signal.SIGTERM, False), (signal.SIGHUP, False)):
@@ -227,12 +226,8 @@ class Signals(FrontEnd):
                 self.stopped(number, whole_group)
 
     def test_a_program_that_is_killed_is_no_refusal(self):
-        process = subprocess.Popen([FIREBOXER, "settle"], stdin=subprocess.PIPE, stdout=subprocess.PIPE, stderr=subprocess.PIPE, start_new_session=True)
-        process.stdin.write(DAY.read_bytes()[:40000])
-        process.stdin.flush()
-        self.wait_for(lambda: len(self.group(process.pid)) == 2)
-        other = next(int(line.split()[1]) for line in self.group(process.pid) if int(line.split()[1]) != process.pid)
-        os.kill(other, signal.SIGKILL)
+        process = self.started("settle")
+        os.kill(*self.program_of(process), signal.SIGKILL)
         _, said = process.communicate(timeout=10)
         self.assertEqual(process.returncode, 2)
         self.assertIn(b"ended by signal 9", said)

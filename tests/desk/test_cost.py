@@ -13,7 +13,8 @@ MEMORY = 40 * 1024
 
 def run(command, parts):
     """the exit status of a command that is fed so many parts, and what it used"""
-    with subprocess.Popen(command, stdin=subprocess.PIPE, stdout=subprocess.DEVNULL, stderr=subprocess.DEVNULL, bufsize=0) as process:
+    nowhere = subprocess.DEVNULL
+    with subprocess.Popen(command, stdin=subprocess.PIPE, stdout=nowhere, stderr=nowhere, bufsize=0) as process:
         with contextlib.suppress(BrokenPipeError):
             for part in parts:
                 process.stdin.write(part)
@@ -24,7 +25,7 @@ def run(command, parts):
 
 
 def least_time(command):
-    """The least processor time of several runs: nothing in a start-up waits, and other work on the machine would spoil the time by the clock."""
+    """The least processor time of several runs: other work on the machine would spoil the time by the clock."""
     example = EXAMPLE.read_bytes()
     usages = [run(command, [example])[1] for _ in range(15)]
     return min(usage.ru_utime + usage.ru_stime for usage in usages)
@@ -34,12 +35,15 @@ class Cost(FrontEnd):
     """Bounds that the front end keeps."""
 
     def test_start_up(self):
-        self.assertLess(least_time([FIREBOXER, "settle"]) - least_time([ROOT / "tools" / "program", "settle"]), START_UP)
+        alone = least_time([ROOT / "tools" / "program", "settle"])
+        self.assertLess(least_time([FIREBOXER, "settle"]) - alone, START_UP)
 
     def test_memory(self):
         samples = lines(["S\t1234567\t-1234567"] * 89999)
         header = lines("D\t2017-02-20\t1\t-\t100")
-        for name, parts in {"samples": [header, samples], "one line": [b"S" * 65536] * 1000, "rest": [lines("X"), *[samples] * 30]}.items():
+        rest = [lines("X"), *[samples] * 30]
+        inputs = {"samples": [header, samples], "one line": [b"S" * 65536] * 1000, "rest after a refusal": rest}
+        for name, parts in inputs.items():
             with self.subTest(name):
                 status, usage = run([FIREBOXER, "settle"], parts)
                 self.assertEqual(status, 1)

@@ -2,10 +2,12 @@
 import csv
 import io
 import os
+import re
 
 from common import CONTRACTS, DAY, DAY_SHEET, EXAMPLE, GOOD, HEADER, SAMPLES, FrontEnd, lines
 
-BOTH = lines(HEADER, "C\tP\tA1\t2000000\t9999999", "C\tN\tB1\t2000000\t-9999999", ["S\t2000000\t1000000"] * 100, ["S\t-2000000\t-1900000"] * 125, "E")
+BOTH = lines(HEADER, "C\tP\tA1\t2000000\t9999999", "C\tN\tB1\t2000000\t-9999999",
+             ["S\t2000000\t1000000"] * 100, ["S\t-2000000\t-1900000"] * 125, "E")
 
 
 class Table(FrontEnd):
@@ -15,7 +17,8 @@ class Table(FrontEnd):
         answer = self.call("settle", "--table", EXAMPLE)
         self.assertEqual((answer.returncode, answer.stderr), (0, ""))
         text = answer.stdout.decode()
-        for row in ("Settlement of 2017-02-20: 1 quarter hour, interval 4 s, minimum lot 5,000 kW", "Positive (P): extra infeed", "Negative (N): extra offtake",
+        for row in ("Settlement of 2017-02-20: 1 quarter hour, interval 4 s, minimum lot 5,000 kW",
+                    "Positive (P): extra infeed", "Negative (N): extra offtake",
                     "In all: fees 15,404 cent, penalties 0 cent."):
             self.assertIn(row, text)
         rows = [line.split() for line in text.splitlines()]
@@ -30,7 +33,7 @@ class Table(FrontEnd):
             parts = self.call("settle", "--table", path).stdout.decode().split("\n\n")
             for part in parts[2], parts[4]:
                 rule = next(line for line in part.splitlines() if line.startswith("---"))
-                ends = [place for place, (sign, after) in enumerate(zip(rule, rule[1:] + " "), 1) if sign == "-" and after == " "]
+                ends = [match.end() for match in re.finditer("-+", rule)]
                 for line in part.splitlines():
                     # nothing stands in the two blanks between columns
                     self.assertTrue(all(line[end:end + 2].strip() == "" for end in ends), line)
@@ -42,7 +45,8 @@ class Table(FrontEnd):
         for direction, told in zip("PN", sums):
             pool = [row for row in rows if row[0] == "Q" and row[2] == direction]
             contracts = [row for row in rows if row[0] == "K" and row[2] == direction]
-            wanted = [sum(int(row[3 + place]) for row in pool) for place in range(8)] + [sum(int(row[11 + place]) for row in contracts) for place in range(2)]
+            wanted = [sum(int(row[place]) for row in pool) for place in range(3, 11)]
+            wanted += [sum(int(row[place]) for row in contracts) for place in (11, 12)]
             self.assertEqual(told[2:], [f"{number:,}" for number in wanted])
 
     def test_refused_gives_no_table(self):
@@ -93,7 +97,8 @@ class AfterEnd(FrontEnd):
         self.assertEqual((answer.returncode, answer.stderr.count("\n")), (0, 1))
         self.assertIn(f"two.txt{words}", answer.stderr)
         self.assertIn(f"standard input{words}", self.call("settle", input=GOOD + b"\n").stderr)
-        self.assertIn(f"standard input{words}", self.shell('(cat "$example"; sleep 0.05; echo) | "$fireboxer" settle').stderr)
+        answer = self.shell('(cat "$example"; sleep 0.05; echo) | "$fireboxer" settle')
+        self.assertIn(f"standard input{words}", answer.stderr)
 
     def test_a_long_rest_in_a_pipe(self):
         answer = self.shell('(cat "$day"; yes) | "$fireboxer" settle')
@@ -111,14 +116,17 @@ class Inspect(FrontEnd):
         answer = self.call("inspect", DAY)
         self.assertEqual((answer.returncode, answer.stderr), (0, ""))
         text = answer.stdout.decode()
-        for words in ("accepted", "2017-02-20", "4 s, 225 samples a quarter hour", "5,000 kW (the header has -, the usual lot)", "P: 8 (SRL-A1, ", "82,243 kW awarded",
-                      "-1,980 to 8,945 cent per MWh", "samples    21,600", "1,440 minutes, 96 quarter hours", "line 21,618"):
+        for words in ("accepted", "2017-02-20", "4 s, 225 samples a quarter hour",
+                      "5,000 kW (the header has -, the usual lot)", "P: 8 (SRL-A1, ", "82,243 kW awarded",
+                      "-1,980 to 8,945 cent per MWh", "samples    21,600", "1,440 minutes, 96 quarter hours",
+                      "line 21,618"):
             self.assertIn(words, text)
         self.assertNotIn("\nQ", text)
 
     def test_lot_of_the_header_and_no_contract(self):
         text = self.call("inspect", input=lines("D\t2017-02-20\t4\t1000\t1", SAMPLES, "E", "E")).stdout.decode()
-        for words in ("1,000 kW (from the header)", "P: none", "N: none", "15 minutes, 1 quarter hour\n", "more follows that is not read"):
+        for words in ("1,000 kW (from the header)", "P: none", "N: none", "15 minutes, 1 quarter hour\n",
+                      "more follows that is not read"):
             self.assertIn(words, text)
 
     def test_one_contract(self):
