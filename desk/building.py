@@ -130,9 +130,10 @@ def _sources():
     while folders:
         with os.scandir(folders.pop()) as entries:
             for entry in entries:
-                if not entry.is_dir(follow_symlinks=False):
+                # links are no sources: the toolchain follows none
+                if entry.is_file(follow_symlinks=False):
                     files.append(entry.path)
-                elif entry.name not in NO_SOURCES:
+                elif entry.is_dir(follow_symlinks=False) and entry.name not in NO_SOURCES:
                     folders.append(entry.path)
     return sorted(files)
 

@@ -11,26 +11,34 @@ from desk.endings import NOT_BUILT, Trouble
 from desk.places import ROOT
 from desk.streams import STANDARD_ERROR, say, write_all
 
+# How rt ends where something is not proved, or where the prover can't tell; otherwise it failed itself.
+NOT_PROVED = (1, 3)
 # How long processes that were asked to end may take to, in seconds.
 GRACE = 5
 
 
 def prove(name):
     """proves a program and all that it is built on, builds it and runs it on its own example"""
-    failed = ""
+    said = []
     with _started(["rt", "check", name]) as process:
         for line in process.stdout:
-            if line.startswith(b"rt: FAILED:"):
-                failed = line.partition(b":")[2].partition(b":")[2].decode("utf-8", "replace").strip()
             if line.startswith(b"rt: "):
                 _show(line)
+                said.append(line.decode("utf-8", "replace").strip())
         status = process.wait()
-    if status == 0:
-        return
-    if failed:
-        logs = ", ".join(f"target/log/{crate}.out" for crate in failed.split())
-        raise Trouble(f"the proof fails, so nothing is built: {failed}; {logs} has what the prover said", NOT_BUILT)
-    raise Trouble(f"the toolchain failed, so nothing is built: rt check {name} ended with status {status}", NOT_BUILT)
+    if status != 0:
+        raise Trouble(_why_not(name, status, said), NOT_BUILT)
+
+
+def _why_not(name, status, said):
+    """why a check ended without success, by its status and the lines that rt said"""
+    failed = "".join(line.split("FAILED:")[1] for line in said if line.startswith("rt: FAILED:")).split()
+    logs = ", ".join(f"target/log/{crate}.out" for crate in failed)
+    if status not in NOT_PROVED:
+        return f"the toolchain failed, so nothing is built: rt check {name} ended with status {status}"
+    if any("its run FAILED" in line for line in said):
+        return f"the program {name} is proved, and does not print what its example in crates/{name} asks for"
+    return f"the proof fails, so nothing is built: {' '.join(failed)}; {logs} has what the prover said"
 
 
 def _show(line):

@@ -73,6 +73,7 @@ class Stale(Repository):
         self.quiet_runs()
         self.changed_source()
         self.foreign_program()
+        self.failing_run()
         self.failing_proof()
 
     def first_runs(self):
@@ -95,6 +96,11 @@ class Stale(Repository):
         (self.folder / "crates" / "settle" / "must-fail").mkdir()
         (self.folder / "crates" / "settle" / "must-fail" / "some.edit").write_text("an edit is no source")
         self.assertEqual(self.settle().stderr, "")
+        # an editor's lock is a link to nowhere
+        lock = self.folder / "crates" / "settle" / "src" / ".#main.rt"
+        lock.symlink_to("nowhere")
+        self.assertEqual(self.settle().stderr, "")
+        lock.unlink()
 
     def changed_source(self):
         self.write(5)
@@ -108,6 +114,10 @@ class Stale(Repository):
         answer = self.settle()
         self.prints(5, answer)
         self.assertIn("the program settle is not the one that was built: proving and building it", answer.stderr)
+
+    def failing_run(self):
+        (self.folder / "crates" / "settle" / "stdout").write_text("another line\n")
+        self.fails("the program settle is proved, and does not print what its example in crates/settle", self.settle())
 
     def failing_proof(self):
         (self.folder / "crates" / "settle" / "src" / "main.rt").write_text(UNPROVED)

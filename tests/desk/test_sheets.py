@@ -4,7 +4,7 @@ import io
 import os
 import re
 
-from common import CONTRACTS, DAY, DAY_SHEET, EXAMPLE, GOOD, HEADER, SAMPLES, FrontEnd, lines
+from common import CONTRACTS, DAY, DAY_SHEET, EXAMPLE, GOOD, HEADER, ROOT, SAMPLES, FrontEnd, lines
 
 BOTH = lines(HEADER, "C\tP\tA1\t2000000\t9999999", "C\tN\tB1\t2000000\t-9999999",
              ["S\t2000000\t1000000"] * 100, ["S\t-2000000\t-1900000"] * 125, "E")
@@ -132,3 +132,22 @@ class Inspect(FrontEnd):
     def test_one_contract(self):
         text = self.call("inspect", input=lines(HEADER, CONTRACTS[0], SAMPLES, "E")).stdout.decode()
         self.assertIn("P: 1 (A1), 6,000 kW awarded, 5,000 cent per MWh", text)
+
+
+class Readme(FrontEnd):
+    """The README's listings and messages are those that a run gives."""
+
+    def setUp(self):
+        super().setUp()
+        self.text = (ROOT / "README.md").read_text(encoding="utf-8")
+
+    def test_sheets(self):
+        printed = b"".join(self.call("settle", ROOT / "examples" / name).stdout for name in ("example.txt", "negative.txt"))
+        shown = re.findall(r"^    ([VQKT]\|\S*)", self.text, re.M)
+        self.assertEqual(len(shown), 9)
+        self.assertLessEqual(set(shown), set(printed.decode().replace("\t", "|").splitlines()))
+
+    def test_message(self):
+        self.file("day.txt", lines(HEADER, CONTRACTS[0], "C\tP\tA2\t6000\t80,00"))
+        said = self.call("settle", "day.txt").stderr
+        self.assertIn("".join(f"    {line}\n" for line in said.splitlines()), self.text)
