@@ -142,7 +142,7 @@ class Readme(FrontEnd):
         self.text = (ROOT / "README.md").read_text(encoding="utf-8")
 
     def test_sheets(self):
-        printed = b"".join(self.call("settle", ROOT / "examples" / name).stdout for name in ("example.txt", "negative.txt"))
+        printed = self.call("settle", "--join", EXAMPLE, ROOT / "examples" / "negative.txt").stdout
         shown = re.findall(r"^    ([VQKT]\|\S*)", self.text, re.M)
         self.assertEqual(len(shown), 9)
         self.assertLessEqual(set(shown), set(printed.decode().replace("\t", "|").splitlines()))
