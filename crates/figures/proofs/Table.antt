@@ -1,4 +1,4 @@
--- The starred figures of 01, 'Figures to check by': one test over the table of specs/Figures.antt, and one statement.
+-- The starred figures of docs/RULES.md, 'Figures to check by': one test over the table of specs/Figures.antt, and one statement.
 -- Assumes nothing.
 use mathlib.Core.Path.{_≡_, refl, ap, ap₂}
 use mathlib.Core.Logic.{⊎-elim}
@@ -84,6 +84,6 @@ rows-right (g ∷ fs) t f m =
     (λ r. rows-right fs (both-right (right g) (all fs) t) f r)
     (List·Memᴰ·cases-cons m)
 
--- each row of the table: what the definitions give is what 01 says
+-- each row of the table: what the definitions give is what the rules say
 pub figures-right : (f : Figure) → List·Memᴰ f figures → given f ≡ said f
 figures-right = rows-right figures tested

@@ -1,5 +1,5 @@
--- The starred figures of 01, 'Figures to check by', in its order: what a row starts from, what the definitions give for it, and
--- what 01 says.
+-- The starred figures of docs/RULES.md, 'Figures to check by', in its order: what a row starts from, what the definitions give for it, and
+-- what the rules say.
 use Prim.Native.Nat.{ℕ, _*_, _-_}
 use mathlib.Core.List.{List, [], _∷_, _++_}
 use lib.ListN.{length, replicate}
@@ -56,7 +56,7 @@ given (shares gaps surplus parts) = each pos (sharesOf surplus (in32 gaps))
 given (energy unit-seconds kwh) = pos (energyOf unit-seconds .0) ∷ []
 given (fee kwh price cents) = feeOf record { 0 = kwh } price .0 ∷ []
 
--- what 01 says
+-- what the rules say
 unfoldable pub said : Figure → List ℤ
 said (value direction setpoint actual bound quantity kw) = pos (units kw) ∷ []
 said (slices awards power parts) = each pos (each units parts)

@@ -1,4 +1,4 @@
--- The series of 01's channel figures ('Figures to check by'): the setpoint is 0 to second 99, and another from then on.
+-- The series of the channel figures (docs/RULES.md, 'A channel that rises'): the setpoint is 0 to second 99, and another from then on.
 use Prim.Native.Nat.{ℕ, zero, suc}
 use mathlib.Core.Bool.{cond}
 use mathlib.Core.List.{List, [], _∷_}

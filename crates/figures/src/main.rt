@@ -1,11 +1,11 @@
-// The channel figures of 01, 'Figures to check by': interval 1, lot 5,000 kW, the setpoint 0 to second 99 and another from then on.
+// The channel figures of docs/RULES.md, 'A channel that rises': interval 1, lot 5,000 kW, the setpoint 0 to second 99 and another from then on.
 use arithmetic::power::Units;
 use arithmetic::whole::positive_part;
 use channel::Channel;
 use channel::interval::Interval;
 use libc::STDOUT_FILENO;
 ghost use mathlib.Core.Path.{_≡_};
-ghost use Rattle.channel.specs.Bounds.{ugaOf};
+ghost use Rattle.channel.specs.Backward.{ugaOf};
 ghost use Rattle.channel.specs.declared.interval.Interval.the-variants.{One};
 ghost use Rattle.figures.specs.Jump.{setpointAt, jump};
 

@@ -1,4 +1,4 @@
--- How lines are gathered from blocks (01, 'Text'), as equations on the gatherer's state.
+-- How lines are gathered from blocks (docs/RULES.md, 'Text'), as equations on the gatherer's state.
 use Prim.Native.Nat.{ℕ, _+_, _%_, _^_}
 use mathlib.Core.Bool.{true, false, cond}
 use mathlib.Core.List.{List, [], _∷_}

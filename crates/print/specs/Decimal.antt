@@ -1,4 +1,4 @@
--- Numbers and dates as bytes (01, 'Text').
+-- Numbers and dates as bytes (docs/RULES.md, 'The sheet').
 use Prim.Native.Nat.{ℕ, zero, suc, _+_, _/_, _%_}
 use mathlib.Core.Bool.{cond}
 use mathlib.Core.List.{List, [], _∷_, _++_}

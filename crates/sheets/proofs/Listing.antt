@@ -1,4 +1,4 @@
--- The lines that 01's example prints, byte for byte, from the figures of that example.
+-- The lines that the example prints (docs/RULES.md, 'The example by hand'), byte for byte, from the figures of that example.
 use Prim.Native.Nat.{ℕ}
 use mathlib.Core.Path.{_≡_, refl}
 use mathlib.Core.List.{[], _∷_}

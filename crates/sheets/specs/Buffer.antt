@@ -1,4 +1,4 @@
--- What a call that prints answers, and what it leaves of the lent buffer (01, 'Refusal numbers').
+-- What a call that prints answers, and what it leaves of the lent buffer (docs/RULES.md, 'Calls').
 use Prim.Native.Nat.{ℕ}
 use mathlib.Core.Bool.{cond}
 use mathlib.Core.List.{List, _++_}

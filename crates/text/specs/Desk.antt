@@ -1,4 +1,4 @@
--- What each line makes of the desk, and what is printed for it (01, 'Text' and 'Refusal numbers').
+-- What each line makes of the desk, and what is printed for it (docs/RULES.md, 'Text', 'The sheet').
 use Prim.Native.Nat.{ℕ, _+_, _%_, _^_, _≤_}
 use mathlib.Core.Path.{_≡_}
 use mathlib.Core.Bool.{Bool, true, false, cond}

@@ -1,4 +1,4 @@
--- What is printed for a whole input (01, 'Text'), and what it is to serve the desk's calls.
+-- What is printed for a whole input (docs/RULES.md, 'Text'), and what it is to serve the desk's calls.
 use Prim.Native.Nat.{ℕ, _+_, _≤_}
 use mathlib.Core.Path.{_≡_}
 use mathlib.Core.List.{List, [], _∷_, _++_}
