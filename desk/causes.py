@@ -1,0 +1,158 @@
+"""Why a line was refused, as far as the input tells.
+
+The number is the proved program's; what is said here about its cause is a guess that helps to mend."""
+import datetime
+import re
+
+from desk.illformed import Cause, cause_of_ill_form, encoding
+from desk.refusals import remedy
+from desk.visible import grouped, visible
+
+AWARDS_LIMIT = 2000000
+POWER_LIMIT = 2000000
+IDENTIFIER_LIMIT = 16
+
+
+def cause_of(number, line, before):
+    """the cause of a refusal: the line that was refused, and what stands before it"""
+    if number == 14:
+        return cause_of_ill_form(line)
+    return CAUSES[number](line, before) if number in CAUSES else Cause(FIELDS.get(number), None, None)
+
+
+# The field that a number is about, where the number alone tells all.
+FIELDS = {2: 2, 3: 3, 5: 4, 9: 3, 11: 4}
+
+
+def _wrong_moment(line, before):
+    letter = line.text[:1]
+    if before.header is None:
+        return Cause(0, f"the first line has to be the header, and this one begins with {letter.decode()}",
+                     "put the D line first")
+    if letter == b"D":
+        return Cause(0, f"a second header, {_so_far(before)}",
+                     "give each day or stretch an input of its own, with one D line at its top and E at its end")
+    if letter == b"C":
+        return Cause(0, f"a contract {_so_far(before)}",
+                     "move the C lines up, between the D line and the first S line")
+    return _end_too_early(before) if letter == b"E" else _sample_too_many(before)
+
+
+def _so_far(before):
+    """where the samples stand, in words"""
+    if before.samples == 0:
+        return "before the first sample"
+    each = before.samples_of_quarter()
+    quarter, samples = divmod(before.samples - 1, each)
+    return f"after {samples + 1} of {each} samples of quarter hour {quarter}"
+
+
+def _wanted(before):
+    """what the header asks for, in words"""
+    quarters = before.quarters()
+    hours = "1 quarter hour" if quarters == 1 else f"{quarters} quarter hours, which count from 0 to {quarters - 1}"
+    return f"the header asks for {hours}, {grouped(before.samples_wanted())} samples in all"
+
+
+def _end_too_early(before):
+    missing = before.samples_wanted() - before.samples
+    number = "1 sample is missing" if missing == 1 else f"{grouped(missing)} samples are missing"
+    return Cause(0, f"E {_so_far(before)}; {_wanted(before)}",
+                 f"{number}, here or anywhere before (samples have no time, so the count shows it only at the end): "
+                 "put what is missing in, or write the number of quarter hours that are there into the D line")
+
+
+def _sample_too_many(before):
+    each = before.samples_of_quarter()
+    return Cause(0, f"sample {each + 1} of {each} of quarter hour {before.quarters() - 1}, the last; {_wanted(before)}",
+                 "take out what is there twice, here or anywhere before, or write the number of quarter hours that are "
+                 "there into the D line; after the last sample comes E")
+
+
+def _date(line, _before):
+    text = line.text.split(b"\t")[1].decode()
+    year, month, day = map(int, text.split("-"))
+    if not 1 <= month <= 12:
+        return Cause(1, f"this day does not exist: there is no month {text[5:7]}",
+                     "write the year, the month and the day in this order")
+    try:
+        # there is no year 0 here, and its days are out of range like those of year 1
+        datetime.date(max(year, 1), month, day)
+    except ValueError:
+        return Cause(1, f"this day does not exist: month {text[:7]} has no day {text[8:]}",
+                     "look up the day that is meant")
+    return Cause(1, "the day is out of range: 2000-01-01 to 2099-12-31 are settled", "look whether the year is meant")
+
+
+def _too_many_contracts(line, before):
+    direction = line.text.split(b"\t")[1]
+    count = len(before.of_direction(direction))
+    return Cause(1, f"direction {direction.decode()} has {count} contracts already", None)
+
+
+def _identifier(line, _before):
+    data = line.text.split(b"\t")[2]
+    if not data:
+        return Cause(2, "the identifier is empty", "name the contract")
+    if len(data) > IDENTIFIER_LIMIT:
+        return Cause(2, f"it has {len(data)} bytes, and at most {IDENTIFIER_LIMIT} are allowed", "shorten it")
+    strange = re.search("[^A-Za-z0-9-]", data.decode("utf-8", "surrogateescape"))[0]
+    shown = visible(strange.encode("utf-8", "surrogateescape"))
+    return Cause(2, f"the sign {shown} is in it; A-Z, a-z, 0-9 and hyphen are allowed", "write another sign for it")
+
+
+def _taken(line, before):
+    data = line.text.split(b"\t")[2]
+    first = next(contract for contract in before.contracts if contract.identifier == data)
+    return Cause(2, f"{data.decode()} stands on line {first.line} already, direction {first.direction.decode()}", None)
+
+
+def _awards(line, before):
+    _, direction, _, award, _ = line.text.split(b"\t")
+    others = sum(contract.award for contract in before.of_direction(direction))
+    return Cause(3, f"direction {direction.decode()} has {grouped(others)} kW before this line and "
+                 f"{grouped(others + int(award))} kW with it; {grouped(AWARDS_LIMIT)} kW are the limit",
+                 f"{grouped(AWARDS_LIMIT - others)} kW are left for it: {remedy(10)}")
+
+
+def _price(line, before):
+    _, direction, _, _, price = line.text.split(b"\t")
+    last = before.of_direction(direction)[-1]
+    return Cause(4, f"the contract before it in direction {direction.decode()}, {last.identifier.decode()} on line "
+                 f"{last.line}, has {grouped(last.price)} cent per MWh, and this one {grouped(int(price))}", None)
+
+
+def _power(line, _before):
+    _, *powers = line.text.split(b"\t")
+    place = next(place for place, power in enumerate(powers, 1) if abs(int(power)) > POWER_LIMIT)
+    return Cause(place, None, None)
+
+
+def _no_end(line, before):
+    if line.length == 0:
+        return _no_last_line(line, before)
+    if line.text.strip() == b"E":
+        return Cause(None, "the last line says E and has no line end: E counts with its line end alone",
+                     "put a line end behind E, or: echo >>FILE")
+    if encoding(line):
+        return encoding(line)
+    if b"\r" in line.text:
+        return Cause(None, "line ends of CR alone: lines end in LF",
+                     "tr '\\r' '\\n' <FILE >MENDED, and see that a line E ends it")
+    return Cause(None, f"the last line has no line end and is not E, {_so_far(before)}: the input may be cut off",
+                 "see that the input is whole; its last line is E, with a line end")
+
+
+def _no_last_line(line, before):
+    """the input ends with a complete line, or has none"""
+    if line.number == 1:
+        return Cause(None, "the input is empty", "look whether the right file was given")
+    if before.samples == before.samples_wanted():
+        return Cause(None, "all samples are there, and no line E follows",
+                     "put a line E at the end, or: echo E >>FILE")
+    return Cause(None, f"the input ends {_so_far(before)}; {_wanted(before)}: it may be cut off",
+                 "see that the input is whole, and ends with a line E")
+
+
+CAUSES = {1: _wrong_moment, 4: _date, 6: _too_many_contracts, 7: _identifier, 8: _taken, 10: _awards, 12: _price,
+          13: _power, 15: _no_end}

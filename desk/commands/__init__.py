@@ -1,0 +1,8 @@
+"""The commands: one table, and a module of its name for each, with `arguments(parser)` and `run(options)`.
+
+`arguments` adds the words that the command takes; `run` answers the exit status."""
+
+COMMANDS = {
+    "settle": "settle inputs and print their sheets",
+    "inspect": "say what is in an input, or why it is refused, without a sheet",
+}

@@ -1,0 +1,108 @@
+"""settle: inputs to sheets, by the proved program of this name."""
+import os
+
+from desk import programs, sheets
+from desk.building import ensure_built
+from desk.endings import ACCEPTED, REFUSED, Trouble
+from desk.inputs import Input, called, is_file, look_at
+from desk.outputs import opened
+from desk.refusals import help_table
+from desk.streams import say
+
+ENDINGS = {"sheet": ".sheet", "table": ".table", "csv": ".csv"}
+
+
+def arguments(parser):
+    """the words that settle takes"""
+    parser.add_argument("files", nargs="*", metavar="FILE", help="an input; - or none is standard input")
+    parser.add_argument("-o", "--output", metavar="PLACE",
+                        help="write to this file, or into this folder a file for each input; "
+                        "a file is written whole or, where the input is refused, not at all")
+    parser.add_argument("--join", action="store_true",
+                        help="several inputs: their sheets one after the other, in one output")
+    form = parser.add_mutually_exclusive_group()
+    form.add_argument("--table", dest="form", action="store_const", const="table", default="sheet",
+                      help="print a table that people can read")
+    form.add_argument("--csv", dest="form", action="store_const", const="csv",
+                      help="print rows for a spreadsheet, without decimals")
+    parser.add_argument("--separator", choices=[";", ","],
+                        help="the sign between the cells of --csv: ; (unless given) or ,")
+    parser.epilog = f"{help_table()}\n\n{parser.epilog}"
+
+
+def run(options):
+    """settles each input; the exit status is that of the worst of them"""
+    paths = options.files or ["-"]
+    if options.separator and options.form != "csv":
+        raise Trouble("--separator goes with --csv")
+    if paths.count("-") > 1:
+        raise Trouble("standard input can be read once only")
+    for path in paths:
+        look_at(path)
+    plan = _plan(options, paths)
+    ensure_built("settle")
+    return max(_settle_to(place, inputs, options) for place, inputs in plan)
+
+
+def _plan(options, paths):
+    """which inputs go to which output: (output, inputs), the output None for standard output"""
+    place = options.output
+    if place is not None and (os.path.isdir(place) or place.endswith("/")):
+        plan = _plan_for_folder(options, paths)
+    elif len(paths) == 1 or options.join:
+        plan = [(place, paths)]
+    else:
+        raise Trouble("several inputs: give -o FOLDER for a sheet each, or --join for one after the other")
+    for output, _ in plan:
+        if output not in (None, "-") and any(is_file(path, output) for path in paths):
+            raise Trouble(f"{called(output)} is an input, and would be written over")
+    return plan
+
+
+def _plan_for_folder(options, paths):
+    folder = options.output
+    if options.join:
+        raise Trouble("--join writes one output: give -o FILE, or no -o")
+    if not os.path.isdir(folder):
+        raise Trouble(f"{called(folder)} can't be written: there is no such folder")
+    plan = {}
+    for path in paths:
+        name = "stdin" if path == "-" else os.path.splitext(os.path.basename(path))[0]
+        output = os.path.join(folder, name + ENDINGS[options.form])
+        if output in plan:
+            raise Trouble(f"{called(plan[output][0])} and {called(path)} would both be written to {called(output)}")
+        plan[output] = [path]
+    return list(plan.items())
+
+
+def _settle_to(place, paths, options):
+    """settles inputs to one output"""
+    status, separator = ACCEPTED, options.separator or ";"
+    heading = sheets.csv_header(separator) if options.form == "csv" else ""
+    with opened(place) as output:
+        for path in paths:
+            sheet = _settle(path, output.write if options.form == "sheet" else None)
+            if sheet is None:
+                status = REFUSED
+            elif options.form == "table":
+                output.write("".join(sheets.table(sheets.read(sheet))).encode())
+            elif options.form == "csv":
+                output.write((heading + "".join(sheets.csv(sheets.read(sheet), separator))).encode())
+                heading = ""
+        if status == ACCEPTED:
+            output.finish()
+        elif output.whole:
+            say(f"{called(place)} is not written, since an input was refused")
+    return status
+
+
+def _settle(path, take):
+    """Settles one input, and hands its sheet to `take` as it comes or, without one, answers it whole. None: refused."""
+    sheet = bytearray()
+    with Input(path) as source:
+        if not programs.accepted("settle", source, take or sheet.extend):
+            return None
+        if source.goes_on_after_end():
+            say(f"{source.name}: more follows the end line (line {source.end_line_number()}), and is not read: "
+                "a further day needs an input of its own")
+    return sheet

@@ -1,0 +1,50 @@
+"""The form of an input in names: the kinds of lines, their fields, and what stands before a refused line."""
+import collections
+
+# a field's name in messages, and what form it has: date, number, lot, direction or identifier
+Field = collections.namedtuple("Field", "name form")
+Kind = collections.namedtuple("Kind", "name fields")
+
+KINDS = {
+    b"D": Kind("header", (Field("date", "date"), Field("interval in seconds", "number"), Field("lot in kW", "lot"),
+                          Field("number of quarter hours", "number"))),
+    b"C": Kind("contract", (Field("direction", "direction"), Field("identifier", "identifier"),
+                            Field("award in kW", "number"), Field("price in cent per MWh", "number"))),
+    b"S": Kind("sample", (Field("setpoint in kW", "number"), Field("actual in kW", "number"))),
+    b"E": Kind("end", ()),
+}
+
+Contract = collections.namedtuple("Contract", "line direction identifier award price")
+
+
+def pattern(letter):
+    """how a kind of line is written, with <TAB> for the tab"""
+    return "<TAB>".join([letter.decode(), *(field.name.split(" in ")[0] for field in KINDS[letter].fields)])
+
+
+class Before:
+    """What stands before a refused line. All of it was accepted: a header, contracts, and after them samples alone."""
+
+    def __init__(self, source, line_number):
+        lines = source.head_lines()[:line_number - 1]
+        fields = [line.split(b"\t") for line in lines]
+        self.header = fields[0] if fields else None
+        self.contracts = [Contract(number, *field[1:3], int(field[3]), int(field[4]))
+                          for number, field in enumerate(fields, 1) if field[0] == b"C"]
+        self.samples = line_number - 1 - sum(field[0] != b"S" for field in fields)
+
+    def of_direction(self, direction):
+        """the contracts of a direction"""
+        return [contract for contract in self.contracts if contract.direction == direction]
+
+    def quarters(self):
+        """how many quarter hours the header asks for"""
+        return int(self.header[4])
+
+    def samples_of_quarter(self):
+        """how many samples a quarter hour has"""
+        return 900 // int(self.header[2])
+
+    def samples_wanted(self):
+        """how many samples the header asks for"""
+        return self.quarters() * self.samples_of_quarter()

@@ -1,0 +1,34 @@
+"""A refusal in words that are enough to mend the input."""
+from desk.causes import cause_of
+from desk.layout import KINDS, Before
+from desk.refusals import ground, remedy
+from desk.visible import shortened, visible
+
+
+def refusal(source, refused):
+    """the message for a refusal of an input: where, the line, the field, the ground, the cause, what to do"""
+    parts = [f"{source.name}, line {refused.line}: refusal {refused.number}: {ground(refused.number)}"]
+    line = source.line(refused.line)
+    if line:
+        cause = cause_of(refused.number, line, Before(source, refused.line))
+        mend = cause.mend or remedy(refused.number)
+        parts += [_shown(line), _field(line, cause.field)]
+        parts += [cause.words and f"cause: {cause.words}", f"to mend it: {mend}"]
+    return "\n  ".join(filter(None, parts))
+
+
+def _shown(line):
+    """the line itself"""
+    if not line.complete:
+        return f"line {line.number} (no line end): {shortened(line.text, line.length)}" if line.length else None
+    return f"line {line.number}: {shortened(line.text, line.length)}" if line.length else f"line {line.number} is empty"
+
+
+def _field(line, place):
+    """the field at fault"""
+    if place is None:
+        return None
+    letter, *fields = line.text.split(b"\t")
+    names = ["letter", *(field.name for field in KINDS[letter].fields)] if letter in KINDS else ["letter"]
+    name = names[place] if place < len(names) else "one too many"
+    return f"field {place + 1} ({name}): {visible([letter, *fields][place]) or 'empty'}"

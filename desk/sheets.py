@@ -1,0 +1,108 @@
+"""A sheet for people and for spreadsheets, from its text alone. The only sums are those of lines that stand on it."""
+import collections
+
+from desk.visible import grouped
+
+# a column of the lines Q and K: its short name on the sheet, its name in words, its unit
+Column = collections.namedtuple("Column", "short name unit")
+
+COLUMNS = (
+    Column("SO", "asked for", "kWh"), Column("IS", "delivered", "kWh"), Column("AK", "accepted", "kWh"),
+    Column("ME", "surplus", "kWh"), Column("MI", "shortfall", "kWh"), Column("ZU", "handed out", "kWh"),
+    Column("UN", "under-delivery", "kWh"), Column("AB", "billed", "kWh"),
+    Column("", "fee", "cent"), Column("", "penalty", "cent"),
+)
+ME, FEE = 3, 8
+DIRECTIONS = {"P": "Positive (P): extra infeed", "N": "Negative (N): extra offtake"}
+NOTE = """The operator pays a fee above 0 to the pool, the pool pays one below 0 to the operator, and owes penalties.
+The lines of contracts are rounded on their own and need not add up to the pool's.
+"""
+
+# A line Q or K: no contract on a Q line; as many figures as there are columns, None where the line has none.
+Row = collections.namedtuple("Row", "quarter direction contract figures")
+Sheet = collections.namedtuple("Sheet", "day interval lot rows quarters fees penalties")
+
+
+def read(text):
+    """the sheet of an accepted run"""
+    rows, heading, ending = [], None, None
+    for line in text.decode().splitlines():
+        kind, *fields = line.split("\t")
+        if kind == "V":
+            heading = fields[1], int(fields[2]), int(fields[3])
+        elif kind == "Q":
+            rows.append(Row(int(fields[0]), fields[1], "", (*map(int, fields[2:]), None, None)))
+        elif kind == "K":
+            figures = tuple(map(int, fields[3:]))
+            rows.append(Row(int(fields[0]), fields[1], fields[2], (*figures[:ME], None, *figures[ME:])))
+        elif kind == "T":
+            ending = tuple(map(int, fields))
+    return Sheet(*heading, rows, *ending)
+
+
+def csv(sheet, separator):
+    """a row for each line Q, K and T, with the day on each, and no decimals"""
+    lead = [sheet.day, sheet.interval, sheet.lot]
+    for row in sheet.rows:
+        kind = "K" if row.contract else "Q"
+        yield _joined([kind, *lead, row.quarter, row.direction, row.contract, *row.figures], separator)
+    yield _joined(["T", *lead, None, None, None, *[None] * FEE, sheet.fees, sheet.penalties], separator)
+
+
+def csv_header(separator):
+    """the names of the columns of the csv"""
+    figures = [f"{column.short or column.name} {column.unit}" for column in COLUMNS]
+    lead = ["line", "day", "interval s", "lot kW", "quarter hour", "direction", "contract"]
+    return _joined([*lead, *figures], separator)
+
+
+def _joined(cells, separator):
+    return separator.join("" if cell is None else str(cell) for cell in cells) + "\n"
+
+
+def table(sheet):
+    """the sheet with aligned columns, a part for each direction with its sums, and the sums of the whole"""
+    yield f"Settlement of {sheet.day}: {quarter_hours(sheet)}, interval {sheet.interval} s, "
+    yield f"minimum lot {grouped(sheet.lot)} kW\n"
+    for direction, name in DIRECTIONS.items():
+        rows = [row for row in sheet.rows if row.direction == direction]
+        yield f"\n{name}\n\n"
+        yield from _aligned([*_headings(), *map(_cells, rows), ["sum", "pool", *_sums(rows)]])
+    yield f"\nIn all: fees {grouped(sheet.fees)} cent, penalties {grouped(sheet.penalties)} cent.\n\n{NOTE}"
+
+
+def quarter_hours(sheet):
+    """how many quarter hours a sheet has, in words"""
+    return "1 quarter hour" if sheet.quarters == 1 else f"{sheet.quarters} quarter hours"
+
+
+def _headings():
+    yield ["quarter", "", *(column.short for column in COLUMNS)]
+    yield ["hour", "contract", *(column.name for column in COLUMNS)]
+    yield ["", "", *(column.unit for column in COLUMNS)]
+
+
+def _cells(row):
+    return [str(row.quarter), row.contract or "pool", *map(_cell, row.figures)]
+
+
+def _cell(figure):
+    return "" if figure is None else grouped(figure)
+
+
+def _sums(rows):
+    """the sums of the pool's energies and of the contracts' fees and penalties"""
+    for place in range(len(COLUMNS)):
+        wanted = [row for row in rows if bool(row.contract) == (place >= FEE)]
+        yield grouped(sum(row.figures[place] for row in wanted))
+
+
+def _aligned(lines):
+    """words to the left, figures to the right, a rule below the headings and above the sums"""
+    widths = [max(map(len, column)) for column in zip(*lines)]
+    rule = "  ".join("-" * width for width in widths) + "\n"
+    for place, line in enumerate(lines):
+        if place in (3, len(lines) - 1):
+            yield rule
+        quarter, contract, *figures = (cell.rjust(width) for cell, width in zip(line, widths))
+        yield "  ".join([quarter, contract.strip().ljust(widths[1]), *figures]).rstrip() + "\n"
