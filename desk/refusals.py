@@ -1,8 +1,8 @@
-"""The one list of refusals. Help and messages come from it; a test holds it to the enum of crates/refusals and to the
+"""The one list of refusals. Help and messages come from it; a test holds it to the enum of crates/vocabulary and to the
 table of the README. A later number is one entry more, at its place in the numbers' order."""
 import collections
 
-# the number that the proved program prints, the case of the enum in crates/refusals, the ground, what to do about it
+# the number that the proved program prints, the case of the enum in crates/vocabulary, the ground, what to do about it
 Refusal = collections.namedtuple("Refusal", "number case ground remedy")
 
 REFUSALS = (

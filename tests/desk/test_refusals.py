@@ -237,7 +237,7 @@ class OneList(FrontEnd):
     """The list of refusals, the enum of the code and the README's table say the same."""
 
     def test_enum(self):
-        files = sorted((ROOT / "crates" / "refusals" / "src").rglob("*.rt"))
+        files = sorted((ROOT / "crates" / "vocabulary" / "src").rglob("*.rt"))
         code = "".join(path.read_text(encoding="utf-8") for path in files)
         numbers = {(case, int(number)) for case, number in re.findall(r"Refusal::(\w+) => (\d+)", code)}
         self.assertEqual(numbers, {(refusal.case, refusal.number) for refusal in refusals.REFUSALS} | {("None", 0)})

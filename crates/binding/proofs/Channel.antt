@@ -2,7 +2,7 @@
 use mathlib.Core.Path.{_≡_, _∙_, sym}
 use Rattle.binding.specs.Single.{Single}
 use Rattle.binding.proofs.Arithmetic.{units-single}
-use Rattle.channel.proofs.interval.Interval.windows.Reads as windows
+use Rattle.vocabulary.proofs.interval.Interval.windows.Reads as windows
 use Rattle.channel.proofs.Channel.new.Reads as new
 use Rattle.channel.proofs.Channel.follow.Reads as follow
 use Rattle.channel.proofs.Channel.sized.Reads as sized

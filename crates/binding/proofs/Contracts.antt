@@ -1,21 +1,25 @@
 -- No second answer fits a call of `contracts`.
 use mathlib.Core.Path.{_≡_, _∙_, sym}
 use Rattle.binding.specs.Single.{Single}
-use Rattle.contracts.proofs.book.Book.new.Reads as new
 use Rattle.contracts.proofs.book.Book.contracts.Reads as contracts
 use Rattle.contracts.proofs.book.Book.count.Reads as count
-use Rattle.contracts.proofs.book.Book.refusal.Reads as refusal
-use Rattle.contracts.proofs.book.Book.with.Reads as with
+use Rattle.contracts.proofs.books.Books.new.Reads as new
+use Rattle.contracts.proofs.books.Books.book.Reads as book
+use Rattle.contracts.proofs.books.Books.refusal.Reads as refusal
+use Rattle.contracts.proofs.books.Books.with.Reads as with
 use Rattle.contracts.proofs.identifier.well_formed.Reads as well-formed
-
-new-single : Single new.Post
-new-single κs a r r′ x x′ p q = p ∙ sym q
 
 contracts-single : Single contracts.Post
 contracts-single κs a r r′ x x′ p q = p ∙ sym q
 
 count-single : Single count.Post
 count-single κs a r r′ x x′ p q = p ∙ sym q
+
+new-single : Single new.Post
+new-single κs a r r′ x x′ p q = p ∙ sym q
+
+book-single : Single book.Post
+book-single κs a r r′ x x′ p q = p ∙ sym q
 
 refusal-single : Single refusal.Post
 refusal-single κs a r r′ x x′ p q = p ∙ sym q

@@ -3,7 +3,7 @@ use mathlib.Core.Path.{_≡_, _∙_, sym}
 use Rattle.binding.specs.Single.{Single}
 use Rattle.quarter.proofs.hour.samples_of.Reads as samples-of
 use Rattle.quarter.proofs.hour.quarter_hour.Reads as quarter-hour
-use Rattle.quarter.proofs.sheet.no_sheet.Reads as no-sheet
+use Rattle.quarter.proofs.sheet.no_sheets.Reads as no-sheets
 
 samples-of-single : Single samples-of.Post
 samples-of-single κs a r r′ x x′ p q = p .0 ∙ sym (q .0)
@@ -11,5 +11,5 @@ samples-of-single κs a r r′ x x′ p q = p .0 ∙ sym (q .0)
 quarter-hour-single : Single quarter-hour.Post
 quarter-hour-single κs a r r′ x x′ p q = p ∙ sym q
 
-no-sheet-single : Single no-sheet.Post
-no-sheet-single κs a r r′ x x′ p q = p ∙ sym q
+no-sheets-single : Single no-sheets.Post
+no-sheets-single κs a r r′ x x′ p q = p ∙ sym q

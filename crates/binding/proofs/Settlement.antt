@@ -2,7 +2,7 @@
 use mathlib.Core.Path.{_≡_, _∙_, sym}
 use Rattle.binding.specs.Single.{Single}
 use Rattle.settlement.proofs.run.Run.open.Reads as opened
-use Rattle.settlement.proofs.run.Run.book.Reads as book
+use Rattle.settlement.proofs.run.Run.books.Reads as books
 use Rattle.settlement.proofs.run.Run.contract.Reads as contract
 use Rattle.settlement.proofs.run.Run.sample.Reads as sample
 use Rattle.settlement.proofs.run.Run.take.Reads as take
@@ -12,8 +12,8 @@ use Rattle.settlement.proofs.run.Run.heading.Reads as heading
 opened-single : Single opened.Post
 opened-single κs a r r′ x x′ p q = p ∙ sym q
 
-book-single : Single book.Post
-book-single κs a r r′ x x′ p q = p ∙ sym q
+books-single : Single books.Post
+books-single κs a r r′ x x′ p q = p ∙ sym q
 
 contract-single : Single contract.Post
 contract-single κs a r r′ x x′ p q = p ∙ sym q

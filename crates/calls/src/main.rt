@@ -18,11 +18,7 @@ mod script; // what the fields of a line say
 
 use arithmetic::money::Cents;
 use fields::split::field;
-use input::Contract;
-use input::Header;
-use input::Sample;
 use libc::STDIN_FILENO;
-use refusals::Refusal;
 use settlement::run::Answer;
 use settlement::run::Opened;
 use settlement::run::Run;
@@ -32,7 +28,11 @@ use sheets::print_head;
 use sheets::print_quarter;
 use sheets::print_refusal;
 use sheets::print_total;
-use values::direction::Direction;
+use vocabulary::contract::Contract;
+use vocabulary::direction::Direction;
+use vocabulary::header::Header;
+use vocabulary::refusal::Refusal;
+use vocabulary::sample::Sample;
 ghost use Prim.Native.Nat.{_≤_};
 ghost use lib.ListN.{length};
 
@@ -122,11 +122,9 @@ fn samples(mut held: Taken, at: u64, line: &[u8]) -> Taken {
 // The sheets of the last taking, with the contracts of the run.
 fn print_sheets(held: Taken, quarter: u8, out: &mut [u8]) -> Printed {
     let run = held.run;
-    let positives = run.book(Direction::Positive).contracts();
-    let negatives = run.book(Direction::Negative).contracts();
-    let above = held.positive;
-    let below = held.negative;
-    print_quarter(out, quarter, positives, above, negatives, below)
+    let books = run.books();
+    let sheets = held.sheets;
+    print_quarter(out, quarter, books, sheets)
 }
 
 fn show_sheets(held: Taken) {
@@ -158,7 +156,7 @@ fn end(mut held: Taken, at: u64) -> Taken {
 }
 
 fn contracts_of(run: Run, direction: Direction) -> u64 {
-    run.book(direction).count() as u64
+    run.books().book(direction).count() as u64
 }
 
 fn heading(held: Taken, at: u64) {

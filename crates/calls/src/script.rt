@@ -4,12 +4,12 @@ use arithmetic::date::Date;
 use arithmetic::whole::excess;
 use arithmetic::whole::negative_part;
 use arithmetic::whole::positive_part;
-use channel::interval::Interval;
 use fields::number::LongNumber;
 use fields::number::long_number_of;
 use fields::split::field;
-use refusals::Refusal;
-use values::direction::Direction;
+use vocabulary::direction::Direction;
+use vocabulary::interval::Interval;
+use vocabulary::refusal::Refusal;
 ghost use Prim.Native.Nat.{_≤_};
 
 pub(crate) fn letter(line: &[u8], k: usize) -> u8 {

@@ -8,7 +8,7 @@ use lib.IntN.{ℤ, pos}
 use lib.ListN.{length, take, getD}
 use lib.Seq.{take-suc}
 use Rattle.arithmetic.specs.Power.{unitsOf}
-use Rattle.channel.specs.declared.interval.Interval.{Interval}
+use Rattle.vocabulary.specs.declared.interval.Interval.{Interval}
 use Rattle.channel.specs.declared.window.Side.{Side}
 use Rattle.channel.specs.declared.window.Side.the-variants.{Upper, Lower}
 use Rattle.channel.specs.Bounds.{Past, soll, gradientOf, nextOga, nextUga, ogaAt, ugaAt}

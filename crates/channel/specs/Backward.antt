@@ -5,7 +5,7 @@ use mathlib.Core.List.{List, [], _∷_}
 use lib.IntN.{ℤ, pos}
 use lib.ListN.{getD}
 use Rattle.arithmetic.specs.Power.{unitsOf}
-use Rattle.channel.specs.declared.interval.Interval.{Interval}
+use Rattle.vocabulary.specs.declared.interval.Interval.{Interval}
 use Rattle.channel.specs.Bounds.{nextOga, nextUga}
 
 -- a series with setpoints added to it, one after the other

@@ -7,8 +7,8 @@ use lib.IntN.{ℤ, pos, negℤ}
 use Rattle.arithmetic.specs.Power.{unitsOf}
 use Rattle.arithmetic.specs.Energy.{energyOf}
 use Rattle.arithmetic.specs.Money.{feeOf}
-use Rattle.values.specs.declared.direction.Direction.{Direction}
-use Rattle.values.specs.declared.direction.Direction.the-variants.{Positive, Negative}
+use Rattle.vocabulary.specs.declared.direction.Direction.{Direction}
+use Rattle.vocabulary.specs.declared.direction.Direction.the-variants.{Positive, Negative}
 use Rattle.values.specs.declared.value.Quantity.{Quantity}
 use Rattle.values.specs.declared.value.Quantity.the-variants.{Acceptance, Surplus, Shortfall, UnderDelivery}
 use Rattle.values.specs.Values.{valueOf, seen, sampleOf}

@@ -2,11 +2,11 @@
 use arithmetic::power::Units;
 use arithmetic::whole::positive_part;
 use channel::Channel;
-use channel::interval::Interval;
 use libc::STDOUT_FILENO;
+use vocabulary::interval::Interval;
 ghost use mathlib.Core.Path.{_≡_};
 ghost use Rattle.channel.specs.Backward.{ugaOf};
-ghost use Rattle.channel.specs.declared.interval.Interval.the-variants.{One};
+ghost use Rattle.vocabulary.specs.declared.interval.Interval.the-variants.{One};
 ghost use Rattle.figures.specs.Jump.{setpointAt, jump};
 
 fn setpoint_at(kw: i32, second: u32) -> i32

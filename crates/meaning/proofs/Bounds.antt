@@ -8,7 +8,7 @@ use native.Mathlib.Decide.{decLe}
 use lib.IntN.{ℤ}
 use lib.ListN.{length, take, drop, length-append, take-append-drop, drop-of-length-le}
 use lib.Seq.{length-take-le, take-nil}
-use Rattle.channel.specs.declared.interval.Interval.{Interval}
+use Rattle.vocabulary.specs.declared.interval.Interval.{Interval}
 use Rattle.channel.specs.Bounds.{Past, ogaAt, ugaAt}
 use Rattle.channel.specs.Backward.{seriesAfter, ogaOf, ugaOf}
 use Rattle.channel.proofs.Timed.{told, told-after, series-end, oga-timed, uga-timed}

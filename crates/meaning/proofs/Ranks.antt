@@ -6,8 +6,9 @@ use mathlib.Core.List.{List}
 use Prim.Native.Nat.{ℕ}
 use Rattle.reading.specs.declared.Line.{Line}
 use Rattle.reading.specs.declared.Line.the-variants as L
-use Rattle.meaning.specs.Grounds.{ranked}
-use Rattle.meaning.specs.Meaning.{SoFar, nothing, these, headerGrounds, contractGrounds, sampleGrounds, endGrounds, grounds}
+use Rattle.vocabulary.specs.Grounds.{ranked}
+use Rattle.settlement.specs.Calls.{headerGrounds}
+use Rattle.meaning.specs.Meaning.{SoFar, nothing, these, contractGrounds, sampleGrounds, endGrounds, grounds}
 use Rattle.meaning.specs.Calls.{Held, no-run, held, Call, opens, contracts, samples, takes, ends, callGrounds}
 
 pub line-ranked : (so : SoFar) (identifier : List ℕ) (line : Line) → ranked (grounds so identifier line) ≡ true

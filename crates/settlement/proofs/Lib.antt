@@ -1,3 +1,3 @@
--- What the calls promise over whole runs.
-pub mod Holding
-pub mod Totals
+-- What the parts of a run add up to.
+pub mod Sums
+pub mod Money

@@ -1,45 +1,40 @@
 // A run: one stretch of quarter hours with its contracts. It goes into each call by value and comes back, with the refusal.
-use crate::sums::Sums;
-use crate::sums::with_lines;
+use crate::account::Account;
+use crate::grounds::before_samples;
+use crate::grounds::end_refusal;
+use crate::grounds::open_refusal;
+use crate::grounds::sample_refusal;
+use crate::grounds::take_refusal;
+use crate::plan::Plan;
+use crate::plan::interval_of;
+use crate::plan::plan_of;
+use crate::tape::Tape;
 use arithmetic::date::Date;
 use arithmetic::money::Cents;
 use arithmetic::whole::above_zero;
-use arithmetic::whole::least;
-use arithmetic::whole::within;
 use channel::Channel;
-use channel::interval::Interval;
-use contracts::book::Book;
-use input::Contract;
-use input::Header;
-use input::Sample;
+use contracts::books::Books;
 use quarter::hour::Settled;
 use quarter::hour::quarter_hour;
 use quarter::hour::samples_of;
-use quarter::sheet::Sheet;
-use quarter::sheet::no_sheet;
-use refusals::Refusal;
-use values::direction::Direction;
+use quarter::sheet::Sheets;
+use quarter::sheet::no_sheets;
+use vocabulary::contract::Contract;
+use vocabulary::header::Header;
+use vocabulary::interval::Interval;
+use vocabulary::refusal::Refusal;
+use vocabulary::sample::Sample;
 ghost use mathlib.Core.Path.{_≡_};
-ghost use Prim.Native.Nat.{ℕ, _≤_, _<_};
-ghost use Rattle.refusals.specs.Refusals.{numberOf};
-ghost use Rattle.values.specs.Part.{mirrorOf};
-ghost use Rattle.arithmetic.specs.Whole.{up, leastOf};
-ghost use Rattle.settlement.specs.Calls.{secondsKnown, intervalOf, openRefusal, powerInRange, sampleRefusal, endRefusal, unbegun, takeRefusal, Admitted};
-ghost use Rattle.settlement.specs.Run.{freshRun, noRun, openedOf, sampledOf, endedOf, headingOf, bookOf, withBook, contractGround, contractedOf, quarterIn, settledOf, takenOf};
+ghost use Prim.Native.Nat.{_<_};
+ghost use Rattle.settlement.specs.Run.{freshRun, noRun, runOf, openedOf, contractGround, contractedOf, sampleGround, sampledOf, quarterIn, settledOf, takenOf, endedOf, headingOf};
 
-// The samples of the quarter hour at hand are kept until it is taken; the channel stands where that quarter hour began.
+// The past is the channel as it stands where the quarter hour at hand began; the tape has that quarter hour's samples.
 pub struct Run {
-    date: Date,
-    quarters: u8,
-    taken: u8,
-    positive: Book,
-    negative: Book,
-    channel: Channel,
-    setpoints: [i32; 900],
-    actuals: [i32; 900],
-    filled: usize,
-    fees: Cents,
-    penalties: Cents,
+    plan: Plan,
+    books: Books,
+    past: Channel,
+    tape: Tape,
+    account: Account,
 }
 
 // What opening answers. A refused opening gives no run: what stands in its place has no quarter hour and refuses every call.
@@ -59,8 +54,7 @@ pub struct Taken {
     pub run: Run,
     pub refusal: Refusal,
     pub quarter: u8,
-    pub positive: Sheet,
-    pub negative: Sheet,
+    pub sheets: Sheets,
 }
 
 // What ending answers: the quarter hours taken, and the sums of their fees and penalties.
@@ -79,125 +73,46 @@ pub struct Heading {
     pub lot: u32,
 }
 
-fn seconds_known(seconds: u32) -> bool
-    ensures { λ r. ⌜ r ≡ secondsKnown seconds ⌝ }
-{
-    if seconds == 1 {
-        return true;
-    }
-    if seconds == 3 {
-        return true;
-    }
-    seconds == 4
-}
-
-fn interval_of(seconds: u32) -> Interval
-    ensures { λ r. ⌜ r ≡ intervalOf seconds ⌝ }
-{
-    if seconds == 1 {
-        return Interval::One;
-    }
-    if seconds == 3 {
-        return Interval::Three;
-    }
-    Interval::Four
-}
-
-// A small count as a u8.
-fn count_of(n: i32) -> u8
-    ensures { λ r. ⌜ r ≡ leastOf (up n) 255 ⌝ }
-{
-    least(above_zero(n) as u64, 255) as u8
-}
-
-fn open_refusal(header: Header) -> Refusal
-    ensures { λ r. ⌜ r ≡ openRefusal header ⌝ }
-{
-    if !seconds_known(above_zero(header.interval)) {
-        return Refusal::BadInterval;
-    }
-    if !within(1, header.lot, 1_000_000) {
-        return Refusal::BadLot;
-    }
-    let date = header.date;
-    if !date.is_real() {
-        return Refusal::BadDate;
-    }
-    if !within(1, header.quarters, 100) {
-        return Refusal::BadQuarters;
-    }
-    Refusal::None
-}
-
 // A run with nothing in it yet.
-fn fresh(date: Date, interval: Interval, lot: u32, quarters: u8) -> Run
-    ensures { λ r. ⌜ r ≡ freshRun date interval lot quarters ⌝ }
+fn fresh(plan: Plan, interval: Interval, lot: u32) -> Run
+    ensures { λ r. ⌜ r ≡ freshRun plan interval lot ⌝ }
 {
-    let channel = Channel::new(interval, lot);
-    let positive = Book::new();
-    let negative = Book::new();
-    let setpoints = [0i32; 900];
-    let actuals = [0i32; 900];
+    let books = Books::new();
+    let past = Channel::new(interval, lot);
+    let tape = Tape::new();
+    let account = Account::new();
     Run {
-        date: date,
-        quarters: quarters,
-        taken: 0,
-        positive: positive,
-        negative: negative,
-        channel: channel,
-        setpoints: setpoints,
-        actuals: actuals,
-        filled: 0,
-        fees: Cents(0),
-        penalties: Cents(0),
+        plan: plan,
+        books: books,
+        past: past,
+        tape: tape,
+        account: account,
     }
 }
 
-fn in_range(power: i32) -> bool
-    ensures { λ r. ⌜ r ≡ powerInRange power ⌝ }
+// What stands where an opening gives no run.
+fn no_run() -> Run
+    ensures { λ r. ⌜ r ≡ noRun ⌝ }
 {
-    within(-2_000_000, power, 2_000_000)
+    let day = Date {
+        year: 2000,
+        month: 1,
+        day: 1,
+    };
+    let plan = Plan {
+        date: day,
+        quarters: 0,
+    };
+    fresh(plan, Interval::One, 1)
 }
 
-// Why a sample is refused: a quarter hour waits, or all are taken; or a power is out of range.
-fn sample_refusal(samples: usize, filled: usize, taken: u8, quarters: u8, sample: Sample) -> Refusal
-    ensures { λ r. ⌜ Admitted samples filled taken quarters (sample .setpoint) (sample .actual) r ⌝ }
+// The run of a header that is not refused.
+fn run_of(header: Header) -> Run
+    ensures { λ r. ⌜ r ≡ runOf header ⌝ }
 {
-    if samples <= filled {
-        return Refusal::WrongMoment;
-    }
-    if quarters <= taken {
-        return Refusal::WrongMoment;
-    }
-    if !in_range(sample.setpoint) {
-        return Refusal::BadPower;
-    }
-    if !in_range(sample.actual) {
-        return Refusal::BadPower;
-    }
-    Refusal::None
-}
-
-fn opposite(direction: Direction) -> Direction
-    ensures { λ r. ⌜ r ≡ mirrorOf direction ⌝ }
-{
-    match direction {
-        Direction::Positive => Direction::Negative,
-        Direction::Negative => Direction::Positive,
-    }
-}
-
-// Whether no sample was given yet, in a run that takes some.
-fn before_samples(filled: usize, taken: u8, quarters: u8) -> bool
-    ensures { λ r. ⌜ r ≡ unbegun filled taken quarters ⌝ }
-{
-    if filled != 0 {
-        return false;
-    }
-    if taken != 0 {
-        return false;
-    }
-    quarters != 0
+    let interval = interval_of(above_zero(header.interval));
+    let lot = above_zero(header.lot);
+    fresh(plan_of(header), interval, lot)
 }
 
 impl Run {
@@ -206,76 +121,48 @@ impl Run {
     {
         let refusal = open_refusal(header);
         if refusal.number() != 0 {
-            let day = Date {
-                year: 2000,
-                month: 1,
-                day: 1,
-            };
             return Opened {
-                run: fresh(day, Interval::One, 1, 0),
+                run: no_run(),
                 refusal: refusal,
             };
         }
-        let date = header.date;
-        let interval = interval_of(above_zero(header.interval));
-        let lot = above_zero(header.lot);
-        let quarters = count_of(header.quarters);
         Opened {
-            run: fresh(date, interval, lot, quarters),
+            run: run_of(header),
             refusal: refusal,
         }
     }
 
-    // The contracts of a direction.
-    pub fn book(self, direction: Direction) -> Book
-        ensures { λ r. ⌜ r ≡ bookOf direction self ⌝ }
+    // The contracts of both directions.
+    pub fn books(self) -> Books
+        ensures { λ r. ⌜ r ≡ self .books ⌝ }
     {
-        match direction {
-            Direction::Positive => self.positive,
-            Direction::Negative => self.negative,
-        }
-    }
-
-    // The run with another list of contracts in a direction.
-    fn with_book(mut self, direction: Direction, book: Book) -> Run
-        ensures { λ r. ⌜ r ≡ withBook direction book self ⌝ }
-    {
-        match direction {
-            Direction::Positive => self.positive = book,
-            Direction::Negative => self.negative = book,
-        }
-        self
+        let all = self.books;
+        all
     }
 
     // Why a contract is refused: the moment, then what the lists of both directions say.
     fn contract_refusal(self, contract: Contract, identifier: &[u8]) -> Refusal
         ensures { λ r. ⌜ r ≡ contractGround self contract (now (identifier .entry)) ⌝ }
     {
-        if !before_samples(self.filled, self.taken, self.quarters) {
+        if !before_samples(self.tape.filled, self.account.taken, self.plan.quarters) {
             return Refusal::WrongMoment;
         }
-        let direction = contract.direction;
-        let own = self.book(direction);
-        let other = self.book(opposite(direction));
-        own.refusal(other, identifier, contract.award, contract.price)
+        let books = self.books;
+        books.refusal(contract, identifier)
     }
 
     // One contract more in its direction, with its identifier beside it.
-    pub fn contract(self, contract: Contract, identifier: &[u8]) -> Answer
+    pub fn contract(mut self, contract: Contract, identifier: &[u8]) -> Answer
         ensures { λ r. ⌜ r ≡ contractedOf self contract (now (identifier .entry)) ⌝ }
     {
         let refusal = self.contract_refusal(contract, identifier);
-        if refusal.number() != 0 {
-            return Answer {
-                run: self,
-                refusal: refusal,
-            };
+        if refusal.number() == 0 {
+            let books = self.books;
+            let longer = books.with(contract, identifier);
+            self.books = longer;
         }
-        let direction = contract.direction;
-        let own = self.book(direction);
-        let longer = own.with(identifier, contract.award, contract.price);
         Answer {
-            run: self.with_book(direction, longer),
+            run: self,
             refusal: refusal,
         }
     }
@@ -284,16 +171,18 @@ impl Run {
     pub fn sample(mut self, sample: Sample) -> Answer
         ensures { λ r. ⌜ r ≡ sampledOf self (sample .setpoint) (sample .actual) ⌝ }
     {
-        let channel = self.channel;
-        let samples = samples_of(channel);
-        let at = self.filled;
-        let refusal = sample_refusal(samples, at, self.taken, self.quarters, sample);
-        let setpoint = sample.setpoint;
-        let actual = sample.actual;
+        let past = self.past;
+        let tape = self.tape;
+        let refusal = sample_refusal(
+            samples_of(past),
+            tape.filled,
+            self.account.taken,
+            self.plan.quarters,
+            sample,
+        );
         if refusal.number() == 0 {
-            self.setpoints[at] = setpoint;
-            self.actuals[at] = actual;
-            self.filled = at + 1;
+            let longer = tape.with(sample);
+            self.tape = longer;
         }
         Answer {
             run: self,
@@ -305,38 +194,28 @@ impl Run {
     fn settled(self) -> Settled
         ensures { λ r. ⌜ r ≡ quarterIn self ⌝ }
     {
-        let channel = self.channel;
-        let setpoints = self.setpoints;
-        let actuals = self.actuals;
-        let positive = self.positive;
-        let negative = self.negative;
-        quarter_hour(channel, setpoints, actuals, positive, negative)
+        let past = self.past;
+        let tape = self.tape;
+        let setpoints = tape.setpoints;
+        let actuals = tape.actuals;
+        let books = self.books;
+        quarter_hour(past, setpoints, actuals, books)
     }
 
     // The run after a quarter hour: the channel led on, its fees and penalties added, room for the next samples.
     fn after(mut self, quarter: Settled) -> Run
-        requires { ⌜ self .taken < 255 ⌝ }
+        requires { ⌜ self .account .taken < 255 ⌝ }
         ensures { λ r. ⌜ r ≡ settledOf self quarter ⌝ }
     {
-        let so_far = self.fees;
-        let owed = self.penalties;
-        let sums = Sums {
-            fees: so_far,
-            penalties: owed,
-        };
-        let above = quarter.positive;
-        let below = quarter.negative;
-        let positive = above.lines;
-        let negative = below.lines;
-        let all = with_lines(with_lines(sums, positive), negative);
-        let channel = quarter.channel;
-        self.channel = channel;
-        self.taken = self.taken + 1;
-        self.filled = 0;
-        let fees = all.fees;
-        let penalties = all.penalties;
-        self.fees = fees;
-        self.penalties = penalties;
+        let tape = self.tape;
+        let account = self.account;
+        let past = quarter.channel;
+        let sheets = quarter.sheets;
+        let rewound = tape.rewound();
+        let more = account.with(sheets);
+        self.past = past;
+        self.tape = rewound;
+        self.account = more;
         self
     }
 
@@ -344,28 +223,25 @@ impl Run {
     pub fn take(self) -> Taken
         ensures { λ r. ⌜ r ≡ takenOf self ⌝ }
     {
-        let channel = self.channel;
-        let samples = samples_of(channel);
-        let taken = self.taken;
-        let refusal = take_refusal(samples, self.filled, taken, self.quarters);
+        let past = self.past;
+        let samples = samples_of(past);
+        let taken = self.account.taken;
+        let refusal = take_refusal(samples, self.tape.filled, taken, self.plan.quarters);
         if refusal.number() != 0 {
             return Taken {
                 run: self,
                 refusal: refusal,
                 quarter: taken,
-                positive: no_sheet(),
-                negative: no_sheet(),
+                sheets: no_sheets(),
             };
         }
         let quarter = self.settled();
-        let above = quarter.positive;
-        let below = quarter.negative;
+        let sheets = quarter.sheets;
         Taken {
             run: self.after(quarter),
             refusal: refusal,
             quarter: taken,
-            positive: above,
-            negative: below,
+            sheets: sheets,
         }
     }
 
@@ -373,15 +249,14 @@ impl Run {
     pub fn end(self) -> Ended
         ensures { λ r. ⌜ r ≡ endedOf self ⌝ }
     {
-        let taken = self.taken;
-        let quarters = self.quarters;
-        let fees = self.fees;
-        let penalties = self.penalties;
-        let refusal = end_refusal(taken, quarters);
+        let account = self.account;
+        let fees = account.fees;
+        let penalties = account.penalties;
+        let refusal = end_refusal(account.taken, self.plan.quarters);
         Ended {
             run: self,
             refusal: refusal,
-            quarters: taken,
+            quarters: account.taken,
             fees: fees,
             penalties: penalties,
         }
@@ -390,38 +265,13 @@ impl Run {
     pub fn heading(self) -> Heading
         ensures { λ r. ⌜ r ≡ headingOf self ⌝ }
     {
-        let date = self.date;
-        let channel = self.channel;
-        let interval = channel.interval();
+        let date = self.plan.date;
+        let past = self.past;
+        let interval = past.interval();
         Heading {
             date: date,
             interval: interval,
-            lot: channel.lot(),
+            lot: past.lot(),
         }
     }
-}
-
-fn end_refusal(taken: u8, quarters: u8) -> Refusal
-    ensures { λ r. ⌜ r ≡ endRefusal taken quarters ⌝ }
-{
-    if quarters == 0 {
-        return Refusal::WrongMoment;
-    }
-    if taken < quarters {
-        return Refusal::WrongMoment;
-    }
-    Refusal::None
-}
-
-// Why taking is refused: no quarter hour waits.
-fn take_refusal(samples: usize, filled: usize, taken: u8, quarters: u8) -> Refusal
-    ensures { λ r. ⌜ (r ≡ takeRefusal samples filled taken quarters) × ((numberOf r ≡ 0 → taken < 255)) ⌝ }
-{
-    if filled < samples {
-        return Refusal::WrongMoment;
-    }
-    if quarters <= taken {
-        return Refusal::WrongMoment;
-    }
-    Refusal::None
 }

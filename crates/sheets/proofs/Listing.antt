@@ -7,12 +7,13 @@ use Rattle.print.specs.Decimal.{digitsIn, digits, numberText, twoDigits, fourDi
 use Rattle.sheets.specs.Sheet.{tabbed, lineText, headText, poolText, energiesOf, contractText, contractsText, sideText, quarterText, totalText, refusalText}
 use Rattle.arithmetic.specs.declared.energy.Kwh.{Kwh}
 use Rattle.arithmetic.specs.declared.money.Cents.{Cents}
-use Rattle.channel.specs.declared.interval.Interval.the-variants.{Four}
+use Rattle.vocabulary.specs.declared.interval.Interval.the-variants.{Four}
 use Rattle.contracts.specs.declared.book.Awarded.{Awarded}
+use Rattle.contracts.specs.declared.books.Books.{Books}
 use Rattle.quarter.specs.declared.sheet.Pool.{Pool}
 use Rattle.quarter.specs.declared.sheet.Line.{Line}
 use Rattle.quarter.specs.declared.sheet.Sheet.{Sheet}
-use Rattle.refusals.specs.declared.Refusal.the-variants.{NoEnd}
+use Rattle.vocabulary.specs.declared.refusal.Refusal.the-variants.{NoEnd}
 
 abbrev kwh : ℕ → Kwh
 kwh n = record { 0 = n }
@@ -41,11 +42,14 @@ positive =
 abbrev negative : Sheet
 negative = record { pool = poolOf 0 0 0 0 0 0 0 0; lines = []; count = 0 }
 
+abbrev books : Books
+books = record { positive = record { contracts = a1 ∷ a2 ∷ []; count = 2 }; negative = record { contracts = []; count = 0 } }
+
 pub listing-head : headText (record { year = 2017; month = 2; day = 20 }) Four 5000 ≡ 86 ∷ 9 ∷ 49 ∷ 9 ∷ 50 ∷ 48 ∷ 49 ∷ 55 ∷ 45 ∷ 48 ∷ 50 ∷ 45 ∷ 50 ∷ 48 ∷ 9 ∷ 52 ∷ 9 ∷ 53 ∷ 48 ∷ 48 ∷ 48 ∷ 10 ∷ []
 unfolding headText lineText tabbed dateText fourDigits twoDigits digits digitsIn
 listing-head = refl
 
-pub listing-quarter : quarterText 0 (a1 ∷ a2 ∷ []) positive [] negative
+pub listing-quarter : quarterText 0 books (record { positive = positive; negative = negative })
     ≡ 81 ∷ 9 ∷ 48 ∷ 9 ∷ 80 ∷ 9 ∷ 50 ∷ 53 ∷ 48 ∷ 48 ∷ 9 ∷ 50 ∷ 52 ∷ 56 ∷ 57 ∷ 9 ∷ 50 ∷ 52 ∷ 52 ∷ 52 ∷ 9 ∷ 52 ∷ 52 ∷ 9 ∷ 53 ∷ 54 ∷ 9 ∷ 52 ∷ 52 ∷ 9 ∷ 48 ∷ 9 ∷ 50 ∷ 52 ∷ 56 ∷ 56 ∷ 10 ∷ 75 ∷ 9 ∷ 48 ∷ 9 ∷ 80 ∷ 9 ∷ 65 ∷ 49 ∷ 9 ∷ 49 ∷ 53 ∷ 48 ∷ 48 ∷ 9 ∷ 49 ∷ 53 ∷ 48 ∷ 48 ∷ 9 ∷ 49 ∷ 53 ∷ 48 ∷ 48 ∷ 9 ∷ 48 ∷ 9 ∷ 48 ∷ 9 ∷ 48 ∷ 9 ∷ 49 ∷ 53 ∷ 48 ∷ 48 ∷ 9 ∷ 55 ∷ 53 ∷ 48 ∷ 48 ∷ 9 ∷ 48 ∷ 10 ∷ 75 ∷ 9 ∷ 48 ∷ 9 ∷ 80 ∷ 9 ∷ 65 ∷ 50 ∷ 9 ∷ 49 ∷ 48 ∷ 48 ∷ 48 ∷ 9 ∷ 57 ∷ 56 ∷ 57 ∷ 9 ∷ 57 ∷ 52 ∷ 52 ∷ 9 ∷ 53 ∷ 54 ∷ 9 ∷ 52 ∷ 52 ∷ 9 ∷ 48 ∷ 9 ∷ 57 ∷ 56 ∷ 56 ∷ 9 ∷ 55 ∷ 57 ∷ 48 ∷ 52 ∷ 9 ∷ 48 ∷ 10 ∷ 81 ∷ 9 ∷ 48 ∷ 9 ∷ 78 ∷ 9 ∷ 48 ∷ 9 ∷ 48 ∷ 9 ∷ 48 ∷ 9 ∷ 48 ∷ 9 ∷ 48 ∷ 9 ∷ 48 ∷ 9 ∷ 48 ∷ 9 ∷ 48 ∷ 10 ∷ []
 unfolding quarterText sideText contractsText contractText energiesOf poolText lineText tabbed numberText digits digitsIn
 listing-quarter = refl

@@ -5,12 +5,12 @@ use mathlib.Core.Bool.{Bool, true, false, cond}
 use mathlib.Core.List.{List, []}
 use lib.ListN.{length}
 use lib.IntN.{pos}
-use Rattle.refusals.specs.declared.Refusal.{Refusal}
-use Rattle.refusals.specs.declared.Refusal.the-variants.{WrongMoment, BadLine, NoEnd}
-use Rattle.refusals.specs.Refusals.{accepted}
-use Rattle.input.specs.declared.Contract.{Contract}
-use Rattle.input.specs.declared.Header.{Header}
-use Rattle.input.specs.declared.Sample.{Sample}
+use Rattle.vocabulary.specs.declared.refusal.Refusal.{Refusal}
+use Rattle.vocabulary.specs.declared.refusal.Refusal.the-variants.{WrongMoment, BadLine, NoEnd}
+use Rattle.vocabulary.specs.Refusals.{accepted}
+use Rattle.vocabulary.specs.declared.contract.Contract.{Contract}
+use Rattle.vocabulary.specs.declared.header.Header.{Header}
+use Rattle.vocabulary.specs.declared.sample.Sample.{Sample}
 use Rattle.settlement.specs.declared.run.Run.{Run}
 use Rattle.settlement.specs.declared.run.Taken.{Taken}
 use Rattle.settlement.specs.declared.run.Heading.{Heading}
@@ -71,8 +71,7 @@ contractTurn desk number contract identifier =
 
 -- Q and K, "printed when the last sample is in": with the contracts that the run had, and what was taken from it
 unfoldable pub takenText : Run → Taken → List ℕ
-takenText run taken =
-    quarterText (taken .quarter) (run .positive .contracts) (taken .positive) (run .negative .contracts) (taken .negative)
+takenText run taken = quarterText (taken .quarter) (run .books) (taken .sheets)
 
 unfoldable pub quarterTurn : Run → Turn
 quarterTurn run =

@@ -1,12 +1,8 @@
 // The desk takes the lines of an input one after the other, hands what they say to the run, and prints what there is to say.
 use arithmetic::date::Date;
-use input::Contract;
-use input::Header;
-use input::Sample;
 use reading::Line;
 use reading::identifier;
 use reading::read;
-use refusals::Refusal;
 use settlement::run::Run;
 use settlement::run::Taken;
 use sheets::Printed;
@@ -14,7 +10,10 @@ use sheets::print_head;
 use sheets::print_quarter;
 use sheets::print_refusal;
 use sheets::print_total;
-use values::direction::Direction;
+use vocabulary::contract::Contract;
+use vocabulary::header::Header;
+use vocabulary::refusal::Refusal;
+use vocabulary::sample::Sample;
 ghost use mathlib.Core.Path.{_≡_};
 ghost use Prim.Native.Nat.{_≤_};
 ghost use lib.ListN.{length};
@@ -62,11 +61,9 @@ fn print_taken(run: Run, taken: Taken, out: &mut [u8]) -> Printed
     ensures bytes { λ _. ⌜ now (out .exit) ≡ printInto (now (out .entry)) (takenText run taken) ⌝ }
     ensures room { λ _. ⌜ length (takenText run taken) ≤ 16384 ⌝ }
 {
-    let positives = run.book(Direction::Positive).contracts();
-    let negatives = run.book(Direction::Negative).contracts();
-    let above = taken.positive;
-    let below = taken.negative;
-    print_quarter(out, taken.quarter, positives, above, negatives, below)
+    let books = run.books();
+    let sheets = taken.sheets;
+    print_quarter(out, taken.quarter, books, sheets)
 }
 
 impl Desk {

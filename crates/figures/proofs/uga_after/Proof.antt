@@ -9,7 +9,7 @@ use mir.Syntax.{w32}
 use mir.Val.{toZ, ofZ}
 use mir.ValLaws.{toZ-ofZ}
 use Rattle.arithmetic.proofs.Signed.{back32}
-use Rattle.channel.specs.declared.interval.Interval.the-variants.{One}
+use Rattle.vocabulary.specs.declared.interval.Interval.the-variants.{One}
 use Rattle.channel.specs.State.{Represents}
 use Rattle.figures.specs.Jump.{jump}
 use Rattle.figures.proofs.uga_after.Statement.{statement}

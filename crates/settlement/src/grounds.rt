@@ -1,0 +1,110 @@
+// Why a call is refused: each call's grounds in the order of the table ('Refusals'), the first that holds.
+use arithmetic::whole::above_zero;
+use arithmetic::whole::within;
+use vocabulary::header::Header;
+use vocabulary::refusal::Refusal;
+use vocabulary::sample::Sample;
+ghost use mathlib.Core.Path.{_≡_};
+ghost use Prim.Native.Nat.{_<_};
+ghost use Rattle.vocabulary.specs.Refusals.{numberOf};
+ghost use Rattle.settlement.specs.Calls.{secondsKnown, openRefusal, powerInRange, sampleRefusal, endRefusal, unbegun, takeRefusal, Admitted};
+
+fn seconds_known(seconds: u32) -> bool
+    ensures { λ r. ⌜ r ≡ secondsKnown seconds ⌝ }
+{
+    if seconds == 1 {
+        return true;
+    }
+    if seconds == 3 {
+        return true;
+    }
+    seconds == 4
+}
+
+pub(crate) fn open_refusal(header: Header) -> Refusal
+    ensures { λ r. ⌜ r ≡ openRefusal header ⌝ }
+{
+    if !seconds_known(above_zero(header.interval)) {
+        return Refusal::BadInterval;
+    }
+    if !within(1, header.lot, 1_000_000) {
+        return Refusal::BadLot;
+    }
+    let date = header.date;
+    if !date.is_real() {
+        return Refusal::BadDate;
+    }
+    if !within(1, header.quarters, 100) {
+        return Refusal::BadQuarters;
+    }
+    Refusal::None
+}
+
+// Whether no sample was given yet, in a run that takes some.
+pub(crate) fn before_samples(filled: usize, taken: u8, quarters: u8) -> bool
+    ensures { λ r. ⌜ r ≡ unbegun filled taken quarters ⌝ }
+{
+    if filled != 0 {
+        return false;
+    }
+    if taken != 0 {
+        return false;
+    }
+    quarters != 0
+}
+
+fn in_range(power: i32) -> bool
+    ensures { λ r. ⌜ r ≡ powerInRange power ⌝ }
+{
+    within(-2_000_000, power, 2_000_000)
+}
+
+// Why a sample is refused: a quarter hour waits, or all are taken; or a power is out of range.
+pub(crate) fn sample_refusal(
+    samples: usize,
+    filled: usize,
+    taken: u8,
+    quarters: u8,
+    sample: Sample,
+) -> Refusal
+    ensures { λ r. ⌜ Admitted samples filled taken quarters (sample .setpoint) (sample .actual) r ⌝ }
+{
+    if samples <= filled {
+        return Refusal::WrongMoment;
+    }
+    if quarters <= taken {
+        return Refusal::WrongMoment;
+    }
+    if !in_range(sample.setpoint) {
+        return Refusal::BadPower;
+    }
+    if !in_range(sample.actual) {
+        return Refusal::BadPower;
+    }
+    Refusal::None
+}
+
+// Why taking is refused: no quarter hour waits.
+pub(crate) fn take_refusal(samples: usize, filled: usize, taken: u8, quarters: u8) -> Refusal
+    ensures { λ r. ⌜ (r ≡ takeRefusal samples filled taken quarters) × ((numberOf r ≡ 0 → taken < 255)) ⌝ }
+{
+    if filled < samples {
+        return Refusal::WrongMoment;
+    }
+    if quarters <= taken {
+        return Refusal::WrongMoment;
+    }
+    Refusal::None
+}
+
+pub(crate) fn end_refusal(taken: u8, quarters: u8) -> Refusal
+    ensures { λ r. ⌜ r ≡ endRefusal taken quarters ⌝ }
+{
+    if quarters == 0 {
+        return Refusal::WrongMoment;
+    }
+    if taken < quarters {
+        return Refusal::WrongMoment;
+    }
+    Refusal::None
+}

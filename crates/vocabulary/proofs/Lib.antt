@@ -1,0 +1,2 @@
+pub mod GroundLaws
+pub mod Answers

@@ -1,0 +1,4 @@
+pub mod Interval
+pub mod Refusals
+pub mod Grounds
+pub mod Direction

@@ -1,0 +1,29 @@
+-- The numbers of docs/RULES.md, 'Refusals', and 0 where nothing is refused.
+use Prim.Native.Nat.{ℕ}
+use mathlib.Core.Bool.{Bool}
+use lib.Dec.{eqb}
+use Rattle.vocabulary.specs.declared.refusal.Refusal.{Refusal}
+use Rattle.vocabulary.specs.declared.refusal.Refusal.the-variants.{None, WrongMoment, BadInterval, BadLot, BadDate, BadQuarters, TooManyContracts, BadIdentifier, IdentifierTaken, BadAward, AwardsTooHigh, BadPrice, PriceTooLow, BadPower, BadLine, NoEnd, BufferTooShort}
+
+abbrev pub numberOf : Refusal → ℕ
+numberOf None = 0
+numberOf WrongMoment = 1
+numberOf BadInterval = 2
+numberOf BadLot = 3
+numberOf BadDate = 4
+numberOf BadQuarters = 5
+numberOf TooManyContracts = 6
+numberOf BadIdentifier = 7
+numberOf IdentifierTaken = 8
+numberOf BadAward = 9
+numberOf AwardsTooHigh = 10
+numberOf BadPrice = 11
+numberOf PriceTooLow = 12
+numberOf BadPower = 13
+numberOf BadLine = 14
+numberOf NoEnd = 15
+numberOf BufferTooShort = 16
+
+-- whether nothing is refused
+abbrev pub accepted : Refusal → Bool
+accepted refusal = eqb (numberOf refusal) 0
