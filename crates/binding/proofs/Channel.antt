@@ -1,10 +1,10 @@
 -- No second answer fits a call of `channel`.
-use mathlib.Core.Path.{_≡_, _∙_, sym}
+use mathlib.Core.Path.{_∙_, sym}
 use Rattle.binding.specs.Single.{Single}
 use Rattle.binding.proofs.Arithmetic.{units-single}
-use Rattle.vocabulary.proofs.interval.Interval.windows.Reads as windows
 use Rattle.channel.proofs.Channel.new.Reads as new
 use Rattle.channel.proofs.Channel.follow.Reads as follow
+use Rattle.channel.proofs.Channel.along.Reads as along
 use Rattle.channel.proofs.Channel.sized.Reads as sized
 use Rattle.channel.proofs.Channel.oga.Reads as oga
 use Rattle.channel.proofs.Channel.uga.Reads as uga
@@ -13,14 +13,14 @@ use Rattle.channel.proofs.Channel.lot.Reads as lot
 use Rattle.channel.proofs.tolerance.ogt.Reads as ogt
 use Rattle.channel.proofs.tolerance.ugt.Reads as ugt
 
-windows-single : Single windows.Post
-windows-single κs a r r′ x x′ p q = p ∙ sym q
-
 new-single : Single new.Post
 new-single κs a r r′ x x′ p q = p .0 ∙ sym (q .0)
 
 follow-single : Single follow.Post
 follow-single κs a r r′ x x′ p q = p .0 ∙ sym (q .0)
+
+along-single : Single along.Post
+along-single κs a r r′ x x′ p q = p ∙ sym q
 
 sized-single : Single sized.Post
 sized-single κs a r r′ x x′ p q = p .0 ∙ sym (q .0)

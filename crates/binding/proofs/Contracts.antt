@@ -1,5 +1,5 @@
 -- No second answer fits a call of `contracts`.
-use mathlib.Core.Path.{_≡_, _∙_, sym}
+use mathlib.Core.Path.{_∙_, sym}
 use Rattle.binding.specs.Single.{Single}
 use Rattle.contracts.proofs.book.Book.contracts.Reads as contracts
 use Rattle.contracts.proofs.book.Book.count.Reads as count
@@ -8,6 +8,9 @@ use Rattle.contracts.proofs.books.Books.book.Reads as book
 use Rattle.contracts.proofs.books.Books.refusal.Reads as refusal
 use Rattle.contracts.proofs.books.Books.with.Reads as with
 use Rattle.contracts.proofs.identifier.well_formed.Reads as well-formed
+use Rattle.contracts.proofs.book.Book.held.Reads as held
+use Rattle.contracts.proofs.book.Book.terms.Reads as terms
+use Rattle.contracts.proofs.terms.limits.Reads as limits
 
 contracts-single : Single contracts.Post
 contracts-single κs a r r′ x x′ p q = p ∙ sym q
@@ -29,3 +32,12 @@ with-single κs a r r′ x x′ p q = p ∙ sym q
 
 well-formed-single : Single well-formed.Post
 well-formed-single κs a r r′ x x′ p q = p ∙ sym q
+
+held-single : Single held.Post
+held-single κs a r r′ x x′ p q = p .is ∙ sym (q .is)
+
+terms-single : Single terms.Post
+terms-single κs a r r′ x x′ p q = p ∙ sym q
+
+limits-single : Single limits.Post
+limits-single κs a r r′ x x′ p q = p ∙ sym q

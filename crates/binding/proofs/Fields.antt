@@ -1,5 +1,5 @@
 -- No second answer fits a call of `fields`.
-use mathlib.Core.Path.{_≡_, _∙_, sym}
+use mathlib.Core.Path.{_∙_, sym}
 use denote.Ref.{now}
 use Rattle.binding.specs.Single.{Single, SingleIn}
 use Rattle.fields.proofs.day.date_of.Reads as date-of

@@ -1,11 +1,13 @@
 -- One file for each crate that has public functions.
 mod Arithmetic
-mod Refusals
+mod Bounds
 mod Channel
 mod Values
+mod Vocabulary
 mod Series
 mod Shares
 mod Contracts
+mod Claims
 mod Quarter
 mod Settlement
 mod Print
@@ -14,3 +16,5 @@ mod Lines
 mod Reading
 mod Sheets
 mod Text
+mod Samples
+mod Feed

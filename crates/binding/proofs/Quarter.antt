@@ -1,5 +1,5 @@
 -- No second answer fits a call of `quarter`.
-use mathlib.Core.Path.{_≡_, _∙_, sym}
+use mathlib.Core.Path.{_∙_, sym}
 use Rattle.binding.specs.Single.{Single}
 use Rattle.quarter.proofs.hour.samples_of.Reads as samples-of
 use Rattle.quarter.proofs.hour.quarter_hour.Reads as quarter-hour

@@ -1,9 +1,25 @@
 -- No second answer fits a call of `reading`.
-use mathlib.Core.Path.{_≡_, _∙_, sym}
+use mathlib.Core.Path.{_∙_, sym}
 use denote.Ref.{now}
 use Rattle.binding.specs.Single.{Single, SingleIn}
+use Rattle.reading.proofs.header_line.Reads as header-line
+use Rattle.reading.proofs.contract_line.Reads as contract-line
+use Rattle.reading.proofs.sample_line.Reads as sample-line
+use Rattle.reading.proofs.end_line.Reads as end-line
 use Rattle.reading.proofs.identifier.Reads as identifier
 use Rattle.reading.proofs.read.Reads as read
+
+header-line-single : Single header-line.Post
+header-line-single κs a r r′ x x′ p q = p ∙ sym q
+
+contract-line-single : Single contract-line.Post
+contract-line-single κs a r r′ x x′ p q = p ∙ sym q
+
+sample-line-single : Single sample-line.Post
+sample-line-single κs a r r′ x x′ p q = p ∙ sym q
+
+end-line-single : Single end-line.Post
+end-line-single κs a r r′ x x′ p q = p ∙ sym q
 
 identifier-single : SingleIn (λ κs r. now r) identifier.Post
 identifier-single κs a r r′ x x′ p q = p ∙ sym q

@@ -1,10 +1,12 @@
 -- No second answer fits a call of `settlement`.
-use mathlib.Core.Path.{_≡_, _∙_, sym}
+use mathlib.Core.Path.{_∙_, sym}
 use Rattle.binding.specs.Single.{Single}
 use Rattle.settlement.proofs.run.Run.open.Reads as opened
 use Rattle.settlement.proofs.run.Run.books.Reads as books
 use Rattle.settlement.proofs.run.Run.contract.Reads as contract
 use Rattle.settlement.proofs.run.Run.sample.Reads as sample
+use Rattle.settlement.proofs.run.Run.samples.Reads as samples
+use Rattle.settlement.proofs.run.Run.room.Reads as room
 use Rattle.settlement.proofs.run.Run.take.Reads as take
 use Rattle.settlement.proofs.run.Run.end.Reads as end
 use Rattle.settlement.proofs.run.Run.heading.Reads as heading
@@ -20,6 +22,12 @@ contract-single κs a r r′ x x′ p q = p ∙ sym q
 
 sample-single : Single sample.Post
 sample-single κs a r r′ x x′ p q = p ∙ sym q
+
+samples-single : Single samples.Post
+samples-single κs a r r′ x x′ p q = p ∙ sym q
+
+room-single : Single room.Post
+room-single κs a r r′ x x′ p q = p ∙ sym q
 
 take-single : Single take.Post
 take-single κs a r r′ x x′ p q = p ∙ sym q

@@ -1,11 +1,7 @@
 -- No second answer fits a call of `shares`.
-use mathlib.Core.Path.{_≡_, _∙_, sym}
+use mathlib.Core.Path.{_∙_, sym}
 use Rattle.binding.specs.Single.{Single}
-use Rattle.shares.proofs.largest.marks.Reads as marks
 use Rattle.shares.proofs.shares.Reads as shares
-
-marks-single : Single marks.Post
-marks-single κs a r r′ x x′ p q = p ∙ sym q
 
 shares-single : Single shares.Post
 shares-single κs a r r′ x x′ p q = p ∙ sym q

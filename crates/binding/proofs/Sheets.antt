@@ -1,5 +1,5 @@
 -- No second answer fits a call of `sheets`.
-use mathlib.Core.Path.{_≡_, _∙_, sym}
+use mathlib.Core.Path.{_∙_, sym}
 use denote.Ref.{now}
 use Rattle.binding.specs.Single.{SingleBytes}
 use Rattle.sheets.proofs.print_head.Reads as print-head

@@ -1,5 +1,5 @@
 -- No second answer fits a call of `values`.
-use mathlib.Core.Path.{_≡_, _∙_, sym}
+use mathlib.Core.Path.{_∙_, sym}
 use Rattle.binding.specs.Single.{Single}
 use Rattle.values.proofs.part.facing.Reads as facing
 use Rattle.values.proofs.value.amount.Reads as amount

@@ -1,10 +1,11 @@
 // What a call answered, on standard output. A write that fails is not told: what is missing then differs from what another program writes.
 use libc::STDOUT_FILENO;
 use sheets::Printed;
+use vocabulary::refusal::Refusal;
 ghost use mathlib.Core.Path.{_≡_};
 ghost use lib.ListN.{length};
 
-pub(crate) fn write(text: &[u8]) {
+fn write(text: &[u8]) {
     io::write_all(STDOUT_FILENO, text);
 }
 
@@ -13,19 +14,34 @@ fn write_number(n: u64) {
 }
 
 // A further number of the answer's line.
-pub(crate) fn also(n: u64) {
+fn also(n: u64) {
     write(b"\t");
     write_number(n);
 }
 
 // The line of an answer as far as every call has it: the line of the script, and the refusal's number.
-pub(crate) fn begun(line: u64, refusal: u8) {
+fn begun(line: u64, number: u8) {
     write_number(line);
-    also(refusal as u64);
+    also(number as u64);
 }
 
-pub(crate) fn answered(line: u64, refusal: u8) {
-    begun(line, refusal);
+pub(crate) fn answered(line: u64, refusal: Refusal) {
+    begun(line, refusal.number());
+    write(b"\n");
+}
+
+// With how many samples were accepted.
+pub(crate) fn counted(line: u64, refusal: Refusal, accepted: u64) {
+    begun(line, refusal.number());
+    also(accepted);
+    write(b"\n");
+}
+
+// With how many contracts there are in each direction.
+pub(crate) fn counted_both(line: u64, above: u64, below: u64) {
+    begun(line, 0);
+    also(above);
+    also(below);
     write(b"\n");
 }
 

@@ -17,12 +17,14 @@ mod answer; // what is written
 mod script; // what the fields of a line say
 
 use arithmetic::money::Cents;
+use contracts::books::Books;
 use fields::split::field;
 use libc::STDIN_FILENO;
+use quarter::sheet::Sheets;
+use quarter::sheet::no_sheets;
 use settlement::run::Answer;
-use settlement::run::Opened;
+use settlement::run::Heading;
 use settlement::run::Run;
-use settlement::run::Taken;
 use sheets::Printed;
 use sheets::print_head;
 use sheets::print_quarter;
@@ -31,45 +33,57 @@ use sheets::print_total;
 use vocabulary::contract::Contract;
 use vocabulary::direction::Direction;
 use vocabulary::header::Header;
+use vocabulary::header::Lot;
 use vocabulary::refusal::Refusal;
 use vocabulary::sample::Sample;
 ghost use Prim.Native.Nat.{_≤_};
 ghost use lib.ListN.{length};
 
-// What is held from call to call is what the last taking answered, the run at hand in it.
+// What is held from call to call: the run at hand, and the sheets of the last taking. Each function is handed no more of it than it needs.
+struct Held {
+    run: Run,
+    sheets: Sheets,
+}
 
-fn opened(line: &[u8]) -> Opened {
-    let header = Header {
+// A run of which no quarter hour was taken yet.
+fn untaken(run: Run) -> Held {
+    Held {
+        run: run,
+        sheets: no_sheets(),
+    }
+}
+
+fn header_of(line: &[u8]) -> Header {
+    Header {
         date: script::date(line, 1),
         interval: script::integer(line, 4),
-        lot: script::integer(line, 5),
+        lot: Lot::Kw(script::integer(line, 5)),
         quarters: script::integer(line, 6),
-    };
-    Run::open(header)
+    }
 }
 
-// In a run that was just opened no quarter hour waits, so taking it shows sheets with nothing in them.
-fn open(at: u64, line: &[u8]) -> Taken {
-    let answer = opened(line);
+fn open(at: u64, line: &[u8]) -> Run {
+    let answer = Run::open(header_of(line));
     let run = answer.run;
-    let refused = answer.refusal;
-    answer::answered(at, refused.number());
-    run.take()
+    let refusal = answer.refusal;
+    answer::answered(at, refusal);
+    run
 }
 
-fn contract(mut held: Taken, at: u64, line: &[u8]) -> Taken {
-    let offered = Contract {
+fn contract_of(line: &[u8]) -> Contract {
+    Contract {
         direction: script::direction(line, 1),
         award: script::integer(line, 2),
         price: script::integer(line, 3),
-    };
-    let run = held.run;
-    let answer = run.contract(offered, field(line, 4));
+    }
+}
+
+fn contract(run: Run, at: u64, line: &[u8]) -> Run {
+    let answer = run.contract(contract_of(line), field(line, 4));
     let after = answer.run;
-    let refused = answer.refusal;
-    answer::answered(at, refused.number());
-    held.run = after;
-    held
+    let refusal = answer.refusal;
+    answer::answered(at, refusal);
+    after
 }
 
 fn once(refusal: Refusal) -> u64 {
@@ -102,82 +116,99 @@ fn repeated(run: Run, sample: Sample, times: u64) -> Sampled {
     Sampled { last, accepted }
 }
 
-fn samples(mut held: Taken, at: u64, line: &[u8]) -> Taken {
-    let sample = Sample {
+fn sample_of(line: &[u8]) -> Sample {
+    Sample {
         setpoint: script::integer(line, 2),
         actual: script::integer(line, 3),
-    };
-    let run = held.run;
-    let given = repeated(run, sample, script::count(line, 1, 65_535));
+    }
+}
+
+fn samples(run: Run, at: u64, line: &[u8]) -> Run {
+    let given = repeated(run, sample_of(line), script::count(line, 1, 65_535));
     let last = given.last;
-    let refused = last.refusal;
-    answer::begun(at, refused.number());
-    answer::also(given.accepted);
-    answer::write(b"\n");
     let after = last.run;
-    held.run = after;
-    held
+    let refusal = last.refusal;
+    answer::counted(at, refusal, given.accepted);
+    after
 }
 
-// The sheets of the last taking, with the contracts of the run.
-fn print_sheets(held: Taken, quarter: u8, out: &mut [u8]) -> Printed {
-    let run = held.run;
-    let books = run.books();
-    let sheets = held.sheets;
-    print_quarter(out, quarter, books, sheets)
-}
-
-fn show_sheets(held: Taken) {
+fn show_total(at: u64, refusal: Refusal, quarters: u8, fees: Cents, penalties: Cents) {
+    answer::answered(at, refusal);
     let mut out = answer::dotted();
-    let printed = print_sheets(held, held.quarter, &mut out);
+    let printed = print_total(&mut out, quarters, fees, penalties);
     answer::showed(printed, &out);
 }
 
-fn take(held: Taken, at: u64) -> Taken {
-    let run = held.run;
-    let answer = run.take();
-    let refused = answer.refusal;
-    answer::answered(at, refused.number());
-    show_sheets(answer);
-    answer
-}
-
-fn end(mut held: Taken, at: u64) -> Taken {
-    let run = held.run;
+fn end(run: Run, at: u64) -> Run {
     let answer = run.end();
-    let refused = answer.refusal;
-    answer::answered(at, refused.number());
-    let mut out = answer::dotted();
-    let printed = print_total(&mut out, answer.quarters, answer.fees, answer.penalties);
-    answer::showed(printed, &out);
+    let refusal = answer.refusal;
+    show_total(at, refusal, answer.quarters, answer.fees, answer.penalties);
     let after = answer.run;
-    held.run = after;
-    held
+    after
 }
 
-fn contracts_of(run: Run, direction: Direction) -> u64 {
-    run.books().book(direction).count() as u64
+fn contracts_of(books: Books, direction: Direction) -> u64 {
+    books.book(direction).count() as u64
 }
 
-fn heading(held: Taken, at: u64) {
-    let run = held.run;
-    answer::begun(at, 0);
-    answer::also(contracts_of(run, Direction::Positive));
-    answer::also(contracts_of(run, Direction::Negative));
-    answer::write(b"\n");
-    show_head(run);
+fn show_counts(at: u64, books: Books) {
+    let above = contracts_of(books, Direction::Positive);
+    let below = contracts_of(books, Direction::Negative);
+    answer::counted_both(at, above, below);
 }
 
-fn show_head(run: Run) {
-    let heading = run.heading();
+fn show_head(heading: Heading) {
     let mut out = answer::dotted();
     let interval = heading.interval;
     let printed = print_head(&mut out, heading.date, interval, heading.lot);
     answer::showed(printed, &out);
 }
 
-// The printing call of a line.
-fn printed(held: Taken, line: &[u8], out: &mut [u8]) -> Printed {
+fn heading(run: Run, at: u64) -> Run {
+    show_counts(at, run.books());
+    show_head(run.heading());
+    run
+}
+
+// The run after a call that changes no more than the run.
+fn ran(run: Run, at: u64, line: &[u8]) -> Run {
+    match script::letter(line, 0) {
+        b'C' => contract(run, at, line),
+        b'S' => samples(run, at, line),
+        b'E' => end(run, at),
+        _ => heading(run, at),
+    }
+}
+
+fn show_sheets(quarter: u8, books: Books, sheets: Sheets) {
+    let mut out = answer::dotted();
+    let printed = print_quarter(&mut out, quarter, books, sheets);
+    answer::showed(printed, &out);
+}
+
+fn take(run: Run, at: u64) -> Held {
+    let answer = run.take();
+    let refusal = answer.refusal;
+    answer::answered(at, refusal);
+    let sheets = answer.sheets;
+    show_sheets(answer.quarter, run.books(), sheets);
+    let after = answer.run;
+    Held {
+        run: after,
+        sheets: sheets,
+    }
+}
+
+// An opening, or else a taking.
+fn anew(run: Run, at: u64, line: &[u8]) -> Held {
+    if script::letter(line, 0) == b'O' {
+        return untaken(open(at, line));
+    }
+    take(run, at)
+}
+
+// The printing call of a line, but for that of sheets.
+fn printed_line(line: &[u8], out: &mut [u8]) -> Printed {
     match script::letter(line, 0) {
         b'V' => print_head(
             out,
@@ -185,7 +216,6 @@ fn printed(held: Taken, line: &[u8], out: &mut [u8]) -> Printed {
             script::interval(line, 6),
             script::count(line, 7, 4_294_967_295) as u32,
         ),
-        b'Q' => print_sheets(held, script::byte(line, 3), out),
         b'T' => print_total(
             out,
             script::byte(line, 3),
@@ -200,31 +230,46 @@ fn printed(held: Taken, line: &[u8], out: &mut [u8]) -> Printed {
     }
 }
 
+fn printed(books: Books, sheets: Sheets, line: &[u8], out: &mut [u8]) -> Printed {
+    if script::letter(line, 0) != b'Q' {
+        return printed_line(line, out);
+    }
+    print_quarter(out, script::byte(line, 3), books, sheets)
+}
+
+// The length of the text of a printing call, which is printed where it has room.
+fn text_length(books: Books, sheets: Sheets, line: &[u8]) -> u64 {
+    let mut whole = answer::dotted();
+    answer::length_of(printed(books, sheets, line, &mut whole))
+}
+
 // A printing call, and the whole buffer that it was lent.
-fn print_into(held: Taken, at: u64, line: &[u8], lent: &mut [u8]) {
-    let printed = printed(held, line, lent);
+fn print_into(books: Books, sheets: Sheets, at: u64, line: &[u8], lent: &mut [u8]) {
+    let printed = printed(books, sheets, line, lent);
     answer::showed_whole(at, printed, lent);
 }
 
-// The text is printed where it has room first: its length may decide how much is lent.
-fn print(held: Taken, at: u64, line: &[u8]) {
-    let mut whole = answer::dotted();
-    let text = answer::length_of(printed(held, line, &mut whole));
-    let n = script::lent(line, text);
+// The length of the text may decide how much is lent.
+fn print(books: Books, sheets: Sheets, at: u64, line: &[u8]) {
+    let n = script::lent(line, text_length(books, sheets, line));
     let mut buf = answer::dotted();
-    print_into(held, at, line, &mut buf[..n]);
+    print_into(books, sheets, at, line, &mut buf[..n]);
 }
 
 // The call of a line, which is the `at`-th of the script.
-fn called(held: Taken, at: u64, line: &[u8]) -> Taken {
+fn called(held: Held, at: u64, line: &[u8]) -> Held {
+    let run = held.run;
+    let sheets = held.sheets;
     match script::letter(line, 0) {
-        b'O' => return open(at, line),
-        b'C' => return contract(held, at, line),
-        b'S' => return samples(held, at, line),
-        b'K' => return take(held, at),
-        b'E' => return end(held, at),
-        b'H' => heading(held, at),
-        _ => print(held, at, line),
+        b'O' | b'K' => return anew(run, at, line),
+        b'C' | b'S' | b'E' | b'H' => {
+            let after = ran(run, at, line);
+            return Held {
+                run: after,
+                sheets: sheets,
+            };
+        }
+        _ => print(run.books(), sheets, at, line),
     }
     held
 }
@@ -246,8 +291,10 @@ fn line_end(script: &[u8], from: usize) -> usize
 }
 
 // Before the first opening the run is what a refused one gives.
-fn at_first() -> Taken {
-    opened(b"").run.take()
+fn at_first() -> Held {
+    let opened = Run::open(header_of(b""));
+    let run = opened.run;
+    untaken(run)
 }
 
 fn play(script: &[u8]) {

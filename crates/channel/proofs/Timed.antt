@@ -1,19 +1,19 @@
 -- The channel told backward is the one of Bounds.antt: its bounds after the setpoints up to sample t are oga(t) and uga(t).
 -- Assumes nothing.
 use Prim.Native.Nat.{ℕ, zero, suc, _-_, _<_}
-use mathlib.Core.Path.{_≡_, refl, sym, ap, subst, fun-ext, _∙_}
+use mathlib.Core.Path.{_≡_, refl, sym, ap, fun-ext, _∙_}
 use mathlib.Core.List.{List, [], _∷_, _++_}
 use native.Mathlib.Omega.{arith}
 use lib.IntN.{ℤ, pos}
 use lib.ListN.{length, take, getD}
 use lib.Seq.{take-suc}
 use Rattle.arithmetic.specs.Power.{unitsOf}
-use Rattle.vocabulary.specs.declared.interval.Interval.{Interval}
-use Rattle.channel.specs.declared.window.Side.{Side}
-use Rattle.channel.specs.declared.window.Side.the-variants.{Upper, Lower}
-use Rattle.channel.specs.Bounds.{Past, soll, gradientOf, nextOga, nextUga, ogaAt, ugaAt}
+use Rattle.bounds.specs.declared.side.Side.{Side}
+use Rattle.bounds.specs.declared.side.Side.the-variants.{Upper, Lower}
+use Rattle.bounds.specs.Windows.{gradientOf, nextOga, nextUga}
+use Rattle.channel.specs.Bounds.{Past, soll, ogaAt, ugaAt}
 use Rattle.channel.specs.Backward.{seriesAfter, first, past, ogaOf, ugaOf}
-use Rattle.channel.specs.Side.{boundOf}
+use Rattle.bounds.specs.Side.{boundOf}
 use Rattle.channel.proofs.Sides.{heldOf, held-first, held-later}
 
 -- ---- the setpoints up to sample t, told backward

@@ -6,7 +6,7 @@ use lib.IntN.{ℤ, pos}
 use lib.ListN.{getD}
 use Rattle.arithmetic.specs.Power.{unitsOf}
 use Rattle.vocabulary.specs.declared.interval.Interval.{Interval}
-use Rattle.channel.specs.Bounds.{nextOga, nextUga}
+use Rattle.bounds.specs.Windows.{nextOga, nextUga}
 
 -- a series with setpoints added to it, one after the other
 unfoldable pub seriesAfter : List ℤ → List ℤ → List ℤ

@@ -14,7 +14,7 @@ use Rattle.channel.specs.Tolerance.{fivePercentMore, fivePercentLess, ogtOf, ug
 use Rattle.values.specs.Values.{plus, acceptance, surplus, under-delivery, shortfall}
 use Rattle.series.specs.Sums.{overOf}
 use Rattle.series.specs.Scan.{outputs, each}
-use Rattle.quarter.specs.Quarter.{upperOf}
+use Rattle.contracts.specs.Terms.{upperOf}
 use Rattle.series.specs.Slices.{sliceOf}
 use Rattle.shares.specs.Largest.{pickOf, marked, marksOf}
 use Rattle.shares.specs.Shares.{handedOut, shareFloor, remainder, added, partedOf, sharesOf}

@@ -14,8 +14,9 @@ use Rattle.values.specs.declared.value.Quantity.the-variants.{Acceptance, Surpl
 use Rattle.values.specs.Values.{valueOf, seen, sampleOf}
 use Rattle.series.specs.Slices.{sliceOf}
 use Rattle.series.specs.Scan.{each}
-use Rattle.quarter.specs.declared.sheet.Terms.{Terms}
-use Rattle.quarter.specs.Quarter.{Cut, cutsOf, limitsOf}
+use Rattle.contracts.specs.declared.terms.Terms.{Terms}
+use Rattle.series.specs.Cuts.{Cut, cutsOf}
+use Rattle.contracts.specs.Terms.{limitsOf}
 use Rattle.shares.specs.Shares.{sharesOf}
 
 -- a row of each kind, what it starts from before what comes of it

@@ -1,6 +1,8 @@
 // Blocks of input bytes become lines, in constant memory, however the input is cut into blocks and whatever bytes it has.
 ghost use mathlib.Core.Path.{_≡_};
-ghost use Rattle.lines.specs.Gathering.{emptyGatherer, freshOf, gatheredOf};
+ghost use Rattle.lines.specs.Gathering.{startAt, emptyGatherer, freshOf, pastOf, Starts, gatheredOf};
+ghost use lib.Dec.{eqb};
+ghost use lib.ListN.{length as size};
 
 // Each line ends in one LF.
 const LF: u8 = 10;
@@ -22,27 +24,51 @@ pub struct Gathered {
     pub complete: bool,
 }
 
+// At the start of a line, after so many complete ones: no byte of it is at hand.
+fn blank(count: u64) -> Gatherer
+    ensures { λ r. ⌜ r ≡ startAt count ⌝ }
+{
+    Gatherer {
+        bytes: [0u8; KEPT],
+        length: 0,
+        count,
+    }
+}
+
+// The array by itself, since its length is known where it is a parameter.
+fn starts(bytes: [u8; KEPT], length: usize) -> bool
+    ensures { λ r. ⌜ (size bytes ≡ 81) × (r ≡ eqb length 0) ⌝ }
+{
+    length == 0
+}
+
 impl Gatherer {
     pub fn new() -> Gatherer
         ensures { λ r. ⌜ r ≡ emptyGatherer ⌝ }
     {
-        Gatherer {
-            bytes: [0u8; KEPT],
-            length: 0,
-            count: 0,
-        }
+        blank(0)
     }
 
-    // After a complete line: ready for the next one.
+    // After a complete line: ready for the next one, with nothing left of the last.
     pub fn fresh(self) -> Gatherer
         ensures { λ r. ⌜ r ≡ freshOf self ⌝ }
     {
+        blank(self.count)
+    }
+
+    // After n complete lines that another reader read: they are counted, and it is ready for the next one.
+    pub fn past(self, n: u64) -> Gatherer
+        ensures { λ r. ⌜ r ≡ pastOf n self ⌝ }
+    {
+        blank(std::num::wrapping_add_u64(self.count, n))
+    }
+
+    // Whether nothing of a line is at hand.
+    pub fn at_start(self) -> bool
+        ensures { λ r. ⌜ Starts self r ⌝ }
+    {
         let bytes = self.bytes;
-        Gatherer {
-            bytes,
-            length: 0,
-            count: self.count,
-        }
+        starts(bytes, self.length)
     }
 
     // Reads on to the end of the line at hand, or of the block. It runs for every byte, so the loop is on plain locals.

@@ -1,6 +1,6 @@
 -- The bounds at the samples of a quarter hour: told forward as in Given.antt, and backward as the channel's state follows them.
 -- Assumes nothing.
-use Prim.Native.Nat.{ℕ, suc, _+_, _*_, _≤_, _<_}
+use Prim.Native.Nat.{ℕ, _+_, _*_, _≤_, _<_}
 use mathlib.Core.Path.{_≡_, refl, sym, ap, _∙_}
 use mathlib.Core.List.{List, [], _∷_, _++_, append-assoc}
 use native.Mathlib.Omega.{arith}
@@ -15,7 +15,7 @@ use Rattle.channel.proofs.Timed.{told, told-after, series-end, oga-timed, uga-t
 use Rattle.series.specs.Scan.{each}
 use Rattle.series.proofs.Scanned.{each-length}
 use Rattle.series.proofs.Each.{each-join}
-use Rattle.quarter.specs.Powers.{Samples, samples, ogasOver, ugasOver, samplesOver}
+use Rattle.claims.specs.Powers.{Samples, samples, ogasOver, ugasOver, samplesOver}
 use Rattle.meaning.specs.Given.{Given, intervalIn, lotIn, perQuarter, setpointIn, actualIn, quarterSamples, samplesBefore, pastIn, boundsFrom, setpointsIn, samplesIn}
 
 -- ---- one bound along some setpoints: `over` goes by the series so far, `of` and `at` are the bound, told backward and forward

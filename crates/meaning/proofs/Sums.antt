@@ -19,8 +19,10 @@ use Rattle.vocabulary.specs.declared.direction.Direction.{Direction}
 use Rattle.vocabulary.specs.declared.direction.Direction.the-variants.{Positive, Negative}
 use Rattle.contracts.specs.Book.{priceInRange}
 use Rattle.quarter.specs.declared.sheet.Line.{Line}
-use Rattle.quarter.specs.Blank.{noTerms, noLine, noLines}
-use Rattle.quarter.specs.Quarter.{sheetOf}
+use Rattle.contracts.specs.Terms.{noTerms}
+use Rattle.quarter.specs.Blank.{noLine, noLines}
+use Rattle.claims.specs.Claims.{energiesOf}
+use Rattle.quarter.specs.Quarter.{sheetOf, sheetBy}
 use Rattle.quarter.proofs.HandedOut.{lines-sized}
 use Rattle.settlement.specs.Account.{heldTotal}
 use Rattle.settlement.proofs.Money.{Near, near-sum, near-fits, All, none, more, Good, lines-good}
@@ -128,11 +130,11 @@ quarterLines g q = heldSheet Positive g q .lines ++ heldSheet Negative g q .line
 
 module _ (g : Given) (p : Proper g) (q : ℕ) where
   sheet-good : (d : Direction) → All Good (heldSheet d g q .lines)
-  unfolding heldSheet sheetOf
+  unfolding heldSheet sheetOf sheetBy energiesOf
   sheet-good d = lines-good (secondsIn g) (powersIn d g q) (termsIn d g) (few-terms g p q d) (prices (fair-deals g p d))
 
   sheet-long : (d : Direction) → length (heldSheet d g q .lines) ≡ 32
-  unfolding heldSheet sheetOf
+  unfolding heldSheet sheetOf sheetBy energiesOf
   sheet-long d = lines-sized (secondsIn g) (powersIn d g q) (termsIn d g) (few-terms g p q d)
 
   quarter-good : All Good (quarterLines g q)

@@ -1,175 +1,111 @@
-// The settling program: standard input to standard output. What it prints for an input is `settle` of the crate text; here bytes are only moved.
+// The settling program: standard input to standard output. What is printed for an input is `settled` of the crate meaning; here blocks are read, fed to
+// the reader, and what it prints is written out.
+use feed::Reader;
 use libc::STDERR_FILENO;
 use libc::STDIN_FILENO;
 use libc::STDOUT_FILENO;
-use lines::Gatherer;
+use sheets::BUFFER;
 use sheets::Printed;
-use text::desk::Desk;
-use text::desk::Told;
 ghost use mathlib.Core.Path.{_≡_};
+ghost use mathlib.Core.Bool.{true};
+ghost use Prim.Native.Nat.{_≤_};
 ghost use lib.ListN.{length};
+ghost use Rattle.sheets.specs.Buffer.{bufferLength};
+ghost use Rattle.feed.specs.Reader.{lengthOf};
+ghost use Rattle.feed.specs.Feeding.{Through};
 
-// The line at hand, the desk, and whether to read on.
-struct Session {
-    gatherer: Gatherer,
-    desk: Desk,
-    going: bool,
+// The reader after some input, and whether all that it printed could be written out.
+struct Passed {
+    reader: Reader,
+    wrote: bool,
 }
 
-// Writes out the first bytes of a buffer, and answers whether that went well.
-fn write_out(out: &[u8], n: usize) -> bool {
-    if out.len() < n {
-        return false;
-    }
-    io::write_all(STDOUT_FILENO, &out[..n])
+// The buffer that the reader prints into.
+fn blank() -> [u8; BUFFER]
+    ensures { λ r. ⌜ bufferLength ≡ length r ⌝ }
+{
+    [0u8; BUFFER]
 }
 
-// Writes out what a call printed; where that fails, it says so and answers false.
-fn written(printed: Printed, out: &[u8]) -> bool {
+// Writes out what a call printed into a buffer; where that fails, it says so.
+fn written(printed: Printed, out: &[u8]) -> bool
+    requires { ⌜ lengthOf printed ≤ length (now out) ⌝ }
+{
     let Printed::Length(n) = printed else {
         return false;
     };
-    if write_out(out, n) {
+    if io::write_all(STDOUT_FILENO, &out[..n]) {
         return true;
     }
     io::write_all(STDERR_FILENO, b"settle: the output could not be written\n");
     false
 }
 
-// The desk after a call, and whether to read on.
-struct Served {
-    desk: Desk,
-    going: bool,
-}
-
-fn blank() -> [u8; 16384]
-    ensures { λ r. ⌜ 16384 ≡ length r ⌝ }
+// A block of input, fed to the reader until it is used up or nothing is read any more.
+fn fed(reader: Reader, block: &[u8], out: &mut [u8]) -> Passed
+    requires { ⌜ bufferLength ≤ length (now out) ⌝ }
+    ensures { λ r. ⌜ (r .wrote ≡ true → Through reader (now (block .entry)) (r .reader)) ⌝ }
 {
-    [0u8; 16384]
-}
-
-// Hands a complete line to the desk and writes out what there is to say; 81 bytes stand for any longer line.
-fn serve(desk: Desk, gatherer: Gatherer) -> Served {
-    let mut out = blank();
-    let bytes = gatherer.bytes();
-    let answer = told(desk, gatherer.count(), &bytes, gatherer.length(), &mut out);
-    let after = answer.desk;
-    let printed = answer.printed;
-    let going = written(printed, &out) && !after.is_closed();
-    Served { desk: after, going }
-}
-
-// A line of which `length` bytes are kept.
-fn told(desk: Desk, number: u64, bytes: &[u8], length: usize, out: &mut [u8]) -> Told {
-    if length < bytes.len() {
-        return desk.line(number, &bytes[..length], out);
-    }
-    desk.line(number, bytes, out)
-}
-
-// The session after some bytes, and how many of them it used.
-struct Stepped {
-    session: Session,
-    used: usize,
-}
-
-// One step: on to the next line end, or to the end of the block.
-fn step(session: Session, block: &[u8]) -> Stepped {
-    let gatherer = session.gatherer;
-    let part = gatherer.gather(block);
-    let at_hand = part.gatherer;
-    let desk = session.desk;
-    if !part.complete {
-        return Stepped {
-            session: Session {
-                gatherer: at_hand,
-                desk: desk,
-                going: true,
-            },
-            used: part.used,
-        };
-    }
-    let answer = serve(desk, at_hand);
-    let after = answer.desk;
-    Stepped {
-        session: Session {
-            gatherer: at_hand.fresh(),
-            desk: after,
-            going: answer.going,
-        },
-        used: part.used,
-    }
-}
-
-// A block of input, line by line.
-fn fed(session: Session, block: &[u8]) -> Session {
-    let mut now = session;
+    let mut now = reader;
     let mut i = 0;
     while i < block.len() {
-        let going = now.going;
-        if !going {
-            return now;
+        if now.is_closed() {
+            return Passed {
+                reader: now,
+                wrote: true,
+            };
         }
-        let stepped = step(now, &block[i..]);
-        let next = stepped.session;
-        let used = stepped.used;
-        if used == 0 {
-            return next;
-        }
-        if block.len() - i < used {
-            return next;
-        }
+        let part = now.feed(&block[i..], out);
+        let next = part.reader;
+        let printed = part.printed;
         now = next;
-        i += used;
+        i += part.used;
+        if !written(printed, out) {
+            return Passed {
+                reader: now,
+                wrote: false,
+            };
+        }
     }
-    now
+    Passed {
+        reader: now,
+        wrote: true,
+    }
 }
 
-// Where the input ends without an end line, that is said.
-fn finished(session: Session) {
-    let going = session.going;
-    if !going {
-        return;
-    }
-    let mut out = blank();
-    let desk = session.desk;
-    let gatherer = session.gatherer;
-    let answer = desk.finish(gatherer.count(), &mut out);
-    let printed = answer.printed;
-    written(printed, &out);
-}
-
-// Reads once, and settles what came; the input's end closes the session.
-fn turn(session: Session) -> Session {
+// Reads once, and settles what came, or the input's end.
+fn turn(reader: Reader, out: &mut [u8]) -> Passed
+    requires { ⌜ bufferLength ≤ length (now out) ⌝ }
+{
     let mut block = io::large_buffer();
     let n = io::count(libc::read(STDIN_FILENO, &mut block), &block);
     if n != 0 {
-        return fed(session, &block[..n]);
+        return fed(reader, &block[..n], out);
     }
-    finished(session);
-    let gatherer = session.gatherer;
-    let desk = session.desk;
-    Session {
-        gatherer: gatherer,
-        desk: desk,
-        going: false,
+    let ended = reader.finish(out);
+    let last = ended.reader;
+    let printed = ended.printed;
+    Passed {
+        reader: last,
+        wrote: written(printed, out),
     }
 }
 
 // A proved loop has to end, and nothing says that an input does: it counts down from a number that no input uses up.
 fn main() {
-    let mut session = Session {
-        gatherer: Gatherer::new(),
-        desk: Desk::new(),
-        going: true,
-    };
+    let mut reader = Reader::new();
+    let mut out = blank();
     let mut turns = u64::MAX;
     while turns > 0 {
-        let going = session.going;
-        if !going {
+        if reader.is_closed() {
             return;
         }
-        session = turn(session);
+        let passed = turn(reader, &mut out);
+        if !passed.wrote {
+            return;
+        }
+        let next = passed.reader;
+        reader = next;
         turns -= 1;
     }
 }

@@ -14,7 +14,8 @@ use Rattle.vocabulary.specs.declared.header.Header.{Header}
 use Rattle.channel.specs.State.{newOf}
 use Rattle.contracts.specs.Books.{noBooks, booksRefusal, withContractIn}
 use Rattle.quarter.specs.Blank.{noSheets}
-use Rattle.quarter.specs.Quarter.{samplesOf, quarterHeld}
+use Rattle.claims.specs.Claims.{samplesOf}
+use Rattle.quarter.specs.Quarter.{quarterHeld}
 use Rattle.quarter.specs.declared.hour.Settled.{Settled}
 use Rattle.settlement.specs.declared.plan.Plan.{Plan}
 use Rattle.settlement.specs.declared.run.Run.{Run}
@@ -24,7 +25,7 @@ use Rattle.settlement.specs.declared.run.Taken.{Taken}
 use Rattle.settlement.specs.declared.run.Ended.{Ended}
 use Rattle.settlement.specs.declared.run.Heading.{Heading}
 use Rattle.settlement.specs.Calls.{intervalOf, openRefusal, sampleRefusal, endRefusal, unbegun, takeRefusal}
-use Rattle.settlement.specs.Plan.{planOf}
+use Rattle.settlement.specs.Plan.{lotMeant, planOf}
 use Rattle.settlement.specs.Tape.{noTape, longer, rewound}
 use Rattle.settlement.specs.Account.{noAccount, withQuarter}
 
@@ -40,7 +41,7 @@ noRun = freshRun (record { date = record { year = 2000; month = 1; day = 1 }; qu
 
 -- the run of a header
 unfoldable pub runOf : Header → Run
-runOf h = freshRun (planOf h) (intervalOf (up (h .interval))) (up (h .lot))
+runOf h = freshRun (planOf h) (intervalOf (up (h .interval))) (up (lotMeant (h .lot)))
 
 unfoldable pub openedOf : Header → Opened
 openedOf h = record { run = cond (accepted (openRefusal h)) (runOf h) noRun; refusal = openRefusal h }

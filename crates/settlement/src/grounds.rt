@@ -1,4 +1,5 @@
 // Why a call is refused: each call's grounds in the order of the table ('Refusals'), the first that holds.
+use crate::plan::lot_meant;
 use arithmetic::whole::above_zero;
 use arithmetic::whole::within;
 use vocabulary::header::Header;
@@ -7,7 +8,8 @@ use vocabulary::sample::Sample;
 ghost use mathlib.Core.Path.{_≡_};
 ghost use Prim.Native.Nat.{_<_};
 ghost use Rattle.vocabulary.specs.Refusals.{numberOf};
-ghost use Rattle.settlement.specs.Calls.{secondsKnown, openRefusal, powerInRange, sampleRefusal, endRefusal, unbegun, takeRefusal, Admitted};
+ghost use Rattle.vocabulary.specs.Sample.{powerInRange};
+ghost use Rattle.settlement.specs.Calls.{secondsKnown, openRefusal, endRefusal, unbegun, takeRefusal, Admitted};
 
 fn seconds_known(seconds: u32) -> bool
     ensures { λ r. ⌜ r ≡ secondsKnown seconds ⌝ }
@@ -27,7 +29,8 @@ pub(crate) fn open_refusal(header: Header) -> Refusal
     if !seconds_known(above_zero(header.interval)) {
         return Refusal::BadInterval;
     }
-    if !within(1, header.lot, 1_000_000) {
+    let lot = header.lot;
+    if !within(1, lot_meant(lot), 1_000_000) {
         return Refusal::BadLot;
     }
     let date = header.date;

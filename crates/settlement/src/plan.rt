@@ -3,11 +3,12 @@ use arithmetic::date::Date;
 use arithmetic::whole::above_zero;
 use arithmetic::whole::least;
 use vocabulary::header::Header;
+use vocabulary::header::Lot;
 use vocabulary::interval::Interval;
 ghost use mathlib.Core.Path.{_≡_};
 ghost use Rattle.arithmetic.specs.Whole.{up, leastOf};
 ghost use Rattle.settlement.specs.Calls.{intervalOf};
-ghost use Rattle.settlement.specs.Plan.{planOf};
+ghost use Rattle.settlement.specs.Plan.{lotMeant, planOf};
 
 pub struct Plan {
     pub date: Date,
@@ -32,6 +33,16 @@ fn count_of(n: i32) -> u8
     ensures { λ r. ⌜ r ≡ leastOf (up n) 255 ⌝ }
 {
     least(above_zero(n) as u64, 255) as u8
+}
+
+// The lot that is used, in kW: 5,000 where it is left blank.
+pub(crate) fn lot_meant(lot: Lot) -> i32
+    ensures { λ r. ⌜ r ≡ lotMeant lot ⌝ }
+{
+    match lot {
+        Lot::Blank => 5_000,
+        Lot::Kw(kw) => kw,
+    }
 }
 
 // The plan of a header.

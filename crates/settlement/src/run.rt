@@ -7,6 +7,7 @@ use crate::grounds::sample_refusal;
 use crate::grounds::take_refusal;
 use crate::plan::Plan;
 use crate::plan::interval_of;
+use crate::plan::lot_meant;
 use crate::plan::plan_of;
 use crate::tape::Tape;
 use arithmetic::date::Date;
@@ -26,7 +27,8 @@ use vocabulary::refusal::Refusal;
 use vocabulary::sample::Sample;
 ghost use mathlib.Core.Path.{_≡_};
 ghost use Prim.Native.Nat.{_<_};
-ghost use Rattle.settlement.specs.Run.{freshRun, noRun, runOf, openedOf, contractGround, contractedOf, sampleGround, sampledOf, quarterIn, settledOf, takenOf, endedOf, headingOf};
+ghost use Rattle.settlement.specs.Many.{roomOf, samplesIn, manyOf};
+ghost use Rattle.settlement.specs.Run.{freshRun, noRun, runOf, openedOf, contractGround, contractedOf, sampledOf, quarterIn, settledOf, takenOf, endedOf, headingOf};
 
 // The past is the channel as it stands where the quarter hour at hand began; the tape has that quarter hour's samples.
 pub struct Run {
@@ -111,8 +113,9 @@ fn run_of(header: Header) -> Run
     ensures { λ r. ⌜ r ≡ runOf header ⌝ }
 {
     let interval = interval_of(above_zero(header.interval));
-    let lot = above_zero(header.lot);
-    fresh(plan_of(header), interval, lot)
+    let lot = header.lot;
+    let kw = above_zero(lot_meant(lot));
+    fresh(plan_of(header), interval, kw)
 }
 
 impl Run {
@@ -272,6 +275,46 @@ impl Run {
             date: date,
             interval: interval,
             lot: past.lot(),
+        }
+    }
+}
+
+// Several samples at once, for a reader that has them: the run goes by value once for all of them, not once for each.
+impl Run {
+    // How many samples the quarter hour at hand still takes; 0 where the run takes none.
+    pub fn room(self) -> usize
+        ensures { λ r. ⌜ r ≡ roomOf self ⌝ }
+    {
+        let plan = self.plan;
+        let account = self.account;
+        if plan.quarters <= account.taken {
+            return 0;
+        }
+        let past = self.past;
+        let samples = samples_of(past);
+        let tape = self.tape;
+        if samples <= tape.filled {
+            return 0;
+        }
+        samples - tape.filled
+    }
+
+    // Samples, one after the other, until one is refused: what `sample` makes of each, without handing the run on for each.
+    pub fn samples(mut self, setpoints: &[i32], actuals: &[i32]) -> Answer
+        ensures { λ r. ⌜ r ≡ manyOf self (samplesIn (now (setpoints .entry)) (now (actuals .entry))) ⌝ }
+    {
+        let past = self.past;
+        let plan = self.plan;
+        let account = self.account;
+        let size = samples_of(past);
+        let tape = self.tape;
+        let recorded = tape.with_all(size, account.taken, plan.quarters, setpoints, actuals);
+        let after = recorded.tape;
+        let refusal = recorded.refusal;
+        self.tape = after;
+        Answer {
+            run: self,
+            refusal: refusal,
         }
     }
 }

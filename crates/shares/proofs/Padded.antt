@@ -13,7 +13,7 @@ use lib.Seq.{getD-set-same, getD-set-other, set-out, ext-getD}
 use Rattle.arithmetic.specs.Whole.{leastOf}
 use Rattle.series.specs.Scan.{each}
 use Rattle.series.specs.Sums.{sumOf}
-use Rattle.series.proofs.Sums.{sum-joined, sum-zeros}
+use Rattle.series.proofs.Sums.{over-append, sum-zeros}
 use Rattle.series.proofs.Scanned.{each-length}
 use Rattle.series.proofs.Each.{each-join, each-blank}
 use Rattle.shares.specs.Largest.{pickOf, marked, marksOf}
@@ -75,7 +75,7 @@ zeros-length : (k : ℕ) → length (zeros k) ≡ 32 - k
 zeros-length k = length-drop k (replicate {A = ℕ} 32 0)
 
 pub sum-padded : (l : List ℕ) (k : ℕ) → sumOf (l ++ zeros k) ≡ sumOf l
-sum-padded l k = sum-joined l (zeros k) ∙ rw (sum-zeros 32 k) (add-zero (sumOf l))
+sum-padded l k = over-append (λ (x : ℕ). x) l (zeros k) ∙ rw (sum-zeros 32 k) (add-zero (sumOf l))
 
 -- a list with zeros after it reads the same
 past-end : (l : List ℕ) (k i : ℕ) → getD (l ++ zeros k) i 0 ≡ getD l i 0

@@ -7,6 +7,10 @@ use lib.ListN.{length, drop}
 use Rattle.sheets.specs.declared.Printed.{Printed}
 use Rattle.sheets.specs.declared.Printed.the-variants.{Length, TooShort}
 
+-- no text that is printed at once is longer
+abbrev pub bufferLength : ℕ
+bufferLength = 16384
+
 -- 16 where the buffer is shorter than the text, and 0 where nothing is refused
 abbrev pub numberOf : Printed → ℕ
 numberOf (Length length) = 0

@@ -1,7 +1,7 @@
 -- How a call's answer and bytes tell a turn.
-use Prim.Native.Nat.{ℕ, _+_, _%_, _^_, _≤_}
+use Prim.Native.Nat.{ℕ, _+_, _%_, _^_, _≤_, _<_}
 use mathlib.Core.Path.{_≡_, sym, ap, subst, _∙_}
-use mathlib.Core.Bool.{true, false}
+use mathlib.Core.Bool.{true, false, cond}
 use mathlib.Core.List.{List}
 use native.Mathlib.Omega.{arith}
 use borrow.Author.Tests.{eq-eqb, ne-eqb}
@@ -9,17 +9,23 @@ use lib.ListN.{length}
 use lib.Dec.{leb·zero}
 use Rattle.vocabulary.specs.declared.refusal.Refusal.{Refusal}
 use Rattle.vocabulary.specs.Refusals.{numberOf, accepted}
-use Rattle.sheets.specs.Buffer.{printAnswer, printInto}
+use Rattle.sheets.specs.Buffer.{bufferLength, printAnswer, printInto}
 use Rattle.sheets.specs.declared.Printed.{Printed}
 use Rattle.sheets.specs.declared.Printed.the-variants.{Length}
-use Rattle.text.specs.Desk.{Turn, Tells, quiet, refusedTurn, unless, turnAt, lineTurn, finishAt, finishTurn, answerOf}
+use Rattle.lines.specs.Turns.{quiet}
+use Rattle.text.specs.Desk.{Turn, Tells, deskAt, refusedTurn, unless, takenText, quarterTurn, turnAt, lineTurn, finishAt, finishTurn, answerOf}
+use Rattle.settlement.specs.declared.run.Run.{Run}
+use Rattle.settlement.specs.Run.{takenOf}
+use Rattle.settlement.specs.Many.{roomOf}
+use Rattle.settlement.proofs.Many.{not-full}
 use Rattle.text.specs.declared.desk.Stage.{Stage}
+use Rattle.text.specs.declared.desk.Stage.the-variants.{Open}
 use Rattle.text.specs.declared.desk.Desk.{Desk}
 use Rattle.text.specs.declared.desk.Told.{Told}
 
 -- the text was printed, if there was room for it
 pub told : {out out′ : List ℕ} {before : Desk} {turn : Turn} {p : Printed} {r : Told} → r ≡ answerOf before (turn .desk) p → p ≡ printAnswer out (turn .text)
-    → out′ ≡ printInto out (turn .text) → length (turn .text) ≤ 16384 → Tells out before turn r out′
+    → out′ ≡ printInto out (turn .text) → length (turn .text) ≤ bufferLength → Tells out before turn r out′
 told {before = before} {turn = turn} a e b h = record { prints = record { answer = a ∙ ap (answerOf before (turn .desk)) e; bytes = b }; room = h }
 
 -- nothing was printed
@@ -55,3 +61,9 @@ module _ (desk : Desk) {stage : Stage} (at : desk .stage ≡ stage) where
   pub finish-at : (count : ℕ) → finishAt stage desk ((count + 1) % 2 ^ 64) ≡ finishTurn desk count
   unfolding finishTurn
   finish-at count = ap (λ (s : Stage). finishAt s desk ((count + 1) % 2 ^ 64)) (sym at)
+
+-- while there is room in the quarter hour, nothing is taken and nothing printed
+pub waits : (run : Run) → 0 < roomOf run → quarterTurn run ≡ quiet (deskAt Open run)
+unfolding quarterTurn takenOf
+waits run h =
+    ap (λ (x : Refusal). cond (accepted x) (record { desk = deskAt Open (takenOf run .run); text = takenText run (takenOf run) }) (quiet (deskAt Open run))) (not-full run h)

@@ -2,7 +2,7 @@
 use Prim.Native.Nat.{ℕ, _+_, _%_, _^_, _≤_}
 use mathlib.Core.Path.{_≡_}
 use mathlib.Core.Bool.{Bool, true, false, cond}
-use mathlib.Core.List.{List, []}
+use mathlib.Core.List.{List}
 use lib.ListN.{length}
 use lib.IntN.{pos}
 use Rattle.vocabulary.specs.declared.refusal.Refusal.{Refusal}
@@ -10,6 +10,7 @@ use Rattle.vocabulary.specs.declared.refusal.Refusal.the-variants.{WrongMoment,
 use Rattle.vocabulary.specs.Refusals.{accepted}
 use Rattle.vocabulary.specs.declared.contract.Contract.{Contract}
 use Rattle.vocabulary.specs.declared.header.Header.{Header}
+use Rattle.vocabulary.specs.declared.header.Lot.the-variants.{Kw}
 use Rattle.vocabulary.specs.declared.sample.Sample.{Sample}
 use Rattle.settlement.specs.declared.run.Run.{Run}
 use Rattle.settlement.specs.declared.run.Taken.{Taken}
@@ -17,35 +18,33 @@ use Rattle.settlement.specs.declared.run.Heading.{Heading}
 use Rattle.settlement.specs.declared.run.Ended.{Ended}
 use Rattle.settlement.specs.Run.{openedOf, contractedOf, sampledOf, takenOf, endedOf, headingOf}
 use Rattle.sheets.specs.Sheet.{headText, quarterText, totalText, refusalText}
-use Rattle.sheets.specs.Buffer.{printAnswer, printInto}
+use Rattle.sheets.specs.Buffer.{bufferLength, printAnswer, printInto}
 use Rattle.sheets.specs.declared.Printed.{Printed}
 use Rattle.sheets.specs.declared.Printed.the-variants.{Length, TooShort}
 use Rattle.reading.specs.Line.{lineOf, identifierOf}
 use Rattle.reading.specs.declared.Line.{Line}
 use Rattle.reading.specs.declared.Line.the-variants as L
+use Rattle.lines.specs.Turns as turns
+use Rattle.lines.specs.Turns.{quiet}
+use Rattle.settlement.specs.Many.{roomOf, manyOf}
 use Rattle.text.specs.declared.desk.Stage.{Stage}
 use Rattle.text.specs.declared.desk.Stage.the-variants.{Empty, Open, Closed}
 use Rattle.text.specs.declared.desk.Desk.{Desk}
 use Rattle.text.specs.declared.desk.Told.{Told}
 
 -- the desk after a line, and the text that is printed for it
-pub record Turn : Type 0 where
-  pub desk : Desk
-  pub text : List ℕ
+abbrev pub Turn : Type 0
+Turn = turns.Turn Desk
 
 abbrev pub deskAt : Stage → Run → Desk
 deskAt stage run = record { run = run; stage = stage }
 
 -- before the first line: what stands where an opening was refused
 abbrev pub noHeader : Header
-noHeader = record { date = record { year = 0; month = 0; day = 0 }; interval = pos 0; lot = pos 0; quarters = pos 0 }
+noHeader = record { date = record { year = 0; month = 0; day = 0 }; interval = pos 0; lot = Kw (pos 0); quarters = pos 0 }
 
 unfoldable pub emptyDesk : Desk
 emptyDesk = deskAt Empty (openedOf noHeader .run)
-
--- nothing is printed
-abbrev pub quiet : Desk → Turn
-quiet desk = record { desk = desk; text = [] }
 
 -- "on the first refusal the program prints R|line number|refusal and stops"
 unfoldable pub refusedTurn : Desk → ℕ → Refusal → Turn
@@ -84,6 +83,16 @@ sampleTurn desk number sample =
     unless desk number (sampledOf (desk .run) (sample .setpoint) (sample .actual) .refusal)
     (quarterTurn (sampledOf (desk .run) (sample .setpoint) (sample .actual) .run))
 
+-- several samples, none of which is refused: after the last of them the quarter hour is taken if it is full
+unfoldable pub samplesTurn : Desk → List Sample → Turn
+samplesTurn desk samples = quarterTurn (manyOf (desk .run) samples .run)
+
+-- how many samples more the desk takes before a quarter hour is full
+abbrev pub roomAt : Stage → Run → ℕ
+roomAt Empty run = 0
+roomAt Open run = roomOf run
+roomAt Closed run = 0
+
 -- T
 abbrev pub totalOf : Ended → List ℕ
 totalOf ended = totalText (ended .quarters) (ended .fees) (ended .penalties)
@@ -119,13 +128,13 @@ turnAt Closed desk number line = quiet desk
 unfoldable pub lineTurn : Desk → ℕ → List ℕ → Turn
 lineTurn desk number line = turnAt (desk .stage) desk number line
 
--- the input ended after so many complete lines: 15 "is the number of complete lines plus 1"
 -- whether the end or a refusal was printed
 abbrev pub closedAt : Stage → Bool
 closedAt Empty = false
 closedAt Open = false
 closedAt Closed = true
 
+-- the input ended after so many complete lines: 15 "is the number of complete lines plus 1"
 abbrev pub finishAt : Stage → Desk → ℕ → Turn
 finishAt Empty desk number = refusedTurn desk number NoEnd
 finishAt Open desk number = refusedTurn desk number NoEnd
@@ -139,12 +148,16 @@ abbrev pub answerOf : Desk → Desk → Printed → Told
 answerOf before after (Length n) = record { desk = after; printed = Length n }
 answerOf before after TooShort = record { desk = before; printed = TooShort }
 
+-- nothing to print yet: the run goes on
+abbrev pub goesOn : Run → Told
+goesOn run = record { desk = deskAt Open run; printed = Length 0 }
+
 -- a call prints a turn: its answer, and the bytes of the buffer
 pub record Prints (out : List ℕ) (before : Desk) (turn : Turn) (r : Told) (out′ : List ℕ) : Type 0 where
   pub answer : r ≡ answerOf before (turn .desk) (printAnswer out (turn .text))
   pub bytes : out′ ≡ printInto out (turn .text)
 
--- and a buffer of 16,384 bytes is always long enough
+-- and a buffer of this length is always long enough
 pub record Tells (out : List ℕ) (before : Desk) (turn : Turn) (r : Told) (out′ : List ℕ) : Type 0 where
   pub prints : Prints out before turn r out′
-  pub room : length (turn .text) ≤ 16384
+  pub room : length (turn .text) ≤ bufferLength

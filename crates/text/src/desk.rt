@@ -12,14 +12,16 @@ use sheets::print_refusal;
 use sheets::print_total;
 use vocabulary::contract::Contract;
 use vocabulary::header::Header;
+use vocabulary::header::Lot;
 use vocabulary::refusal::Refusal;
 use vocabulary::sample::Sample;
 ghost use mathlib.Core.Path.{_≡_};
 ghost use Prim.Native.Nat.{_≤_};
 ghost use lib.ListN.{length};
-ghost use Rattle.sheets.specs.Buffer.{printAnswer, printInto};
+ghost use Rattle.sheets.specs.Buffer.{bufferLength, printAnswer, printInto};
+ghost use Rattle.settlement.specs.Many.{samplesIn};
 ghost use Rattle.reading.specs.Line.{lineOf};
-ghost use Rattle.text.specs.Desk.{Tells, emptyDesk, answerOf, refusedTurn, openTurn, contractTurn, takenText, quarterTurn, sampleTurn, endTurn, firstTurn, nextTurn, lineTurn, finishTurn, closedAt};
+ghost use Rattle.text.specs.Desk.{Tells, emptyDesk, goesOn, answerOf, refusedTurn, openTurn, contractTurn, takenText, quarterTurn, sampleTurn, samplesTurn, roomAt, endTurn, firstTurn, nextTurn, lineTurn, finishTurn, closedAt};
 
 // Before the header; while the run is open; after the end or a refusal, when nothing is read any more.
 pub enum Stage {
@@ -59,7 +61,7 @@ fn answer(before: Desk, after: Desk, printed: Printed) -> Told
 fn print_taken(run: Run, taken: Taken, out: &mut [u8]) -> Printed
     ensures answer { λ r. ⌜ r ≡ printAnswer (now (out .entry)) (takenText run taken) ⌝ }
     ensures bytes { λ _. ⌜ now (out .exit) ≡ printInto (now (out .entry)) (takenText run taken) ⌝ }
-    ensures room { λ _. ⌜ length (takenText run taken) ≤ 16384 ⌝ }
+    ensures room { λ _. ⌜ length (takenText run taken) ≤ bufferLength ⌝ }
 {
     let books = run.books();
     let sheets = taken.sheets;
@@ -78,7 +80,7 @@ impl Desk {
                 day: 0,
             },
             interval: 0,
-            lot: 0,
+            lot: Lot::Kw(0),
             quarters: 0,
         };
         let opened = Run::open(none);
@@ -132,31 +134,33 @@ impl Desk {
         if refusal.number() != 0 {
             return self.refused(number, refusal, out);
         }
-        let after = Desk {
-            run: next,
-            stage: Stage::Open,
-        };
+        Desk::goes_on(next)
+    }
+
+    // Nothing to print yet: the run goes on.
+    fn goes_on(run: Run) -> Told
+        ensures { λ r. ⌜ r ≡ goesOn run ⌝ }
+    {
         Told {
-            desk: after,
+            desk: Desk {
+                run: run,
+                stage: Stage::Open,
+            },
             printed: Printed::Length(0),
         }
     }
 
-    // After a sample: if that was the last one of a quarter hour, this is taken.
+    // After samples: the quarter hour is taken once no room is left in it. A run that waits for none is left as it is.
     fn quarter(self, run: Run, out: &mut [u8]) -> Told
         ensures { λ r. ⌜ Tells (now (out .entry)) self (quarterTurn run) r (now (out .exit)) ⌝ }
     {
+        if run.room() != 0 {
+            return Desk::goes_on(run);
+        }
         let taken = run.take();
         let refusal = taken.refusal;
         if refusal.number() != 0 {
-            let after = Desk {
-                run: run,
-                stage: Stage::Open,
-            };
-            return Told {
-                desk: after,
-                printed: Printed::Length(0),
-            };
+            return Desk::goes_on(run);
         }
         let next = taken.run;
         let after = Desk {
@@ -178,6 +182,29 @@ impl Desk {
             return self.refused(number, refusal, out);
         }
         self.quarter(next, out)
+    }
+
+    // Several samples, for a reader that has them: in range, and no more than there is room for.
+    pub fn samples(self, setpoints: &[i32], actuals: &[i32], out: &mut [u8]) -> Told
+        ensures { λ r. ⌜ Tells (now (out .entry)) self (samplesTurn self (samplesIn (now (setpoints .entry)) (now (actuals .entry)))) r (now (out .exit)) ⌝ }
+    {
+        let run = self.run;
+        let answer = run.samples(setpoints, actuals);
+        let next = answer.run;
+        self.quarter(next, out)
+    }
+
+    // How many samples more are taken before a quarter hour is full; none where no run is open.
+    pub fn room(self) -> usize
+        ensures { λ r. ⌜ r ≡ roomAt (self .stage) (self .run) ⌝ }
+    {
+        let stage = self.stage;
+        let run = self.run;
+        match stage {
+            Stage::Empty => 0,
+            Stage::Open => run.room(),
+            Stage::Closed => 0,
+        }
     }
 
     fn end(self, number: u64, out: &mut [u8]) -> Told

@@ -1,5 +1,4 @@
 -- What the interval fixes (docs/RULES.md, 'Ranges', 'Windows and gradient').
-use Prim.Native.Nat.{ℕ}
 use Rattle.vocabulary.specs.declared.interval.Interval.{Interval}
 use Rattle.vocabulary.specs.declared.interval.Interval.the-variants.{One, Three, Four}
 use Rattle.vocabulary.specs.declared.interval.Windows.{Windows}

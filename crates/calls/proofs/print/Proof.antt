@@ -1,35 +1,26 @@
 -- `calls::print` is safe: what is lent is no more than the buffer has.
 -- Assumes nothing.
+use borrow.Author.Needs.{needs}
 use native.Mathlib.Omega.{arith}
 use mathlib.Core.Path.{sym}
 use lib.Seq.{length-take-le}
-use borrow.Author.Needs.{needs}
 use Rattle.calls.proofs.print.Statement.{statement}
 use Rattle.calls.proofs.print.Tie as tie
 
-dotted-requires : tie.Need-dotted-requires
-dotted-requires c κs = search needs
-
-slice-aggregate-printed : tie.Need-slice-aggregate-printed
-slice-aggregate-printed c = search needs
-
-printed-requires : tie.Need-printed-requires
-printed-requires c κs = search needs
-
-length-of-requires : tie.Need-length-of-requires
-length-of-requires c κs = search needs
+text-length-requires : tie.Need-text-length-requires
+text-length-requires c κs = search needs
 
 lent-requires : tie.Need-lent-requires
 lent-requires c κs = search needs
 
-dotted-requires-2 : tie.Need-dotted-requires-2
-dotted-requires-2 c κs = search needs
+dotted-requires : tie.Need-dotted-requires
+dotted-requires c κs = search needs
 
 array-borrow-prefix-buf : tie.Need-array-borrow-prefix-buf
 array-borrow-prefix-buf c = search needs
 
 slice-aggregate-print-into : tie.Need-slice-aggregate-print-into
-slice-aggregate-print-into c = sym (length-take-le _ _ (omega (arith, c .before .dotted2 .ensures)))
+slice-aggregate-print-into c = sym (length-take-le _ _ (omega (arith, c .before .dotted .ensures)))
 
 print-into-requires : tie.Need-print-into-requires
 print-into-requires c κs = search needs
@@ -41,12 +32,9 @@ pub print-spec : {M : Type 1} → statement M
 print-spec =
     tie.close
     (tie.spec
-    dotted-requires
-    slice-aggregate-printed
-    printed-requires
-    length-of-requires
+    text-length-requires
     lent-requires
-    dotted-requires-2
+    dotted-requires
     array-borrow-prefix-buf
     slice-aggregate-print-into
     print-into-requires

@@ -1,55 +1,82 @@
--- `settle::fed` is safe and ends: each turn uses a byte of the block or is the last.
--- Assumes nothing.
+-- `settle::fed` meets its contract. Assumes nothing.
+use Rattle.feed.proofs.UsedLaws.{at-closed, at-block-end, called}
+use Rattle.feed.specs.declared.Reader.{Reader}
+use Rattle.feed.specs.Feeding.{Through}
+use Rattle.sheets.specs.Buffer.{bufferLength}
+use borrow.Author.Needs.{needs}
+use lib.ListN.{length, drop}
 use native.Mathlib.Omega.{arith}
-use Prim.Native.Nat.{_-_, _≤_}
-use lib.ListN.{length}
+use mathlib.Core.Path.{_≡_, refl, sym, _∙_}
+use Prim.Native.Nat.{ℕ, _-_, _≤_}
 use Rattle.settle.proofs.fed.Statement.{statement}
 use Rattle.settle.proofs.fed.Tie as tie
 
 abbrev Inv-loop : tie.InvT-loop
-Inv-loop block now₀ i₀ now i = i ≤ length block
+Inv-loop block out₀ now₀ i₀ out now i =
+    (i ≤ length block) × (bufferLength ≤ length out₀) × (length out ≡ length out₀) × ((last : Reader) → Through now (drop i block) last → Through now₀ block last)
 
 abbrev μ-loop : tie.MeasureT-loop
-μ-loop block now₀ i₀ now i = length block - i
+μ-loop block out₀ now₀ i₀ out now i = length block - i
 
 loop-holds : tie.Need-loop-holds Inv-loop μ-loop
-loop-holds c = omega arith
+loop-holds c = (omega arith, c .before .before .pre, refl, λ last t. t)
+
+is-closed-requires : tie.Need-is-closed-requires Inv-loop μ-loop
+is-closed-requires c κs = search needs
+
+same-length : tie.Need-same-length Inv-loop μ-loop
+same-length c = c .before .before .before .loop .inv .2
 
 returns : tie.Need-returns Inv-loop μ-loop
-returns c = tt
+returns c = λ e. c .before .before .before .loop .inv .3 _ (at-closed _ _ (sym (c .before .is-closed .ensures) ∙ c .if1 .taken))
 
-sub-step : tie.Need-sub-step Inv-loop μ-loop
-sub-step c = omega arith
+sub-feed : tie.Need-sub-feed Inv-loop μ-loop
+sub-feed c = omega arith
 
-part-step-start : tie.Need-part-step-start Inv-loop μ-loop
-part-step-start c = omega arith
+part-feed-start : tie.Need-part-feed-start Inv-loop μ-loop
+part-feed-start c = omega arith
 
-part-step-end : tie.Need-part-step-end Inv-loop μ-loop
-part-step-end c = omega arith
+part-feed-end : tie.Need-part-feed-end Inv-loop μ-loop
+part-feed-end c = omega arith
 
-step-requires : tie.Need-step-requires Inv-loop μ-loop
-step-requires c κs = tt
-
-returns-2 : tie.Need-returns-2 Inv-loop μ-loop
-returns-2 c = tt
-
-sub-if3 : tie.Need-sub-if3 Inv-loop μ-loop
-sub-if3 c = omega arith
-
-returns-3 : tie.Need-returns-3 Inv-loop μ-loop
-returns-3 c = tt
+feed-requires : tie.Need-feed-requires Inv-loop μ-loop
+feed-requires c κs = search needs
 
 add-i : tie.Need-add-i Inv-loop μ-loop
-add-i c = omega arith
+add-i c = let inv = c .before .before .before .before .before .before .before .before .before .before .loop .inv in
+    let enough : bufferLength ≤ length (c .before .before .before .before .before .before .before .before .before .before .loop .out) = omega (arith, inv .1, inv .2) in
+    omega (arith, called {block = c .before .before .before .before .before .before .before .before .before .before .before .before .before .args .block .now} {i = c .before .before .before .before .before .before .before .before .before .before .loop .i} enough (c .before .before .before .before .before .before .before .before .before .loop-test .taken) (c .before .before .before .before .feed .ensures) .within, c .before .before .before .before .before .before .before .before .before .before .before .before .before .good)
+
+written-requires : tie.Need-written-requires Inv-loop μ-loop
+written-requires c κs = let inv = c .before .before .before .before .before .before .before .before .before .before .before .loop .inv in
+    let enough : bufferLength ≤ length (c .before .before .before .before .before .before .before .before .before .before .before .loop .out) = omega (arith, inv .1, inv .2) in
+    called {block = c .before .before .before .before .before .before .before .before .before .before .before .before .before .before .args .block .now} {i = c .before .before .before .before .before .before .before .before .before .before .before .loop .i} enough (c .before .before .before .before .before .before .before .before .before .before .loop-test .taken) (c .before .before .before .before .before .feed .ensures) .room
+
+same-length-2 : tie.Need-same-length-2 Inv-loop μ-loop
+same-length-2 c = let inv = c .before .before .before .before .before .before .before .before .before .before .before .before .before .loop .inv in
+    let enough : bufferLength ≤ length (c .before .before .before .before .before .before .before .before .before .before .before .before .before .loop .out) = omega (arith, inv .1, inv .2) in
+    called {block = c .before .before .before .before .before .before .before .before .before .before .before .before .before .before .before .before .args .block .now} {i = c .before .before .before .before .before .before .before .before .before .before .before .before .before .loop .i} enough (c .before .before .before .before .before .before .before .before .before .before .before .before .loop-test .taken) (c .before .before .before .before .before .before .before .feed .ensures) .length-is ∙ inv .2
+
+returns-2 : tie.Need-returns-2 Inv-loop μ-loop
+returns-2 c = λ e. absurd (let z : _≡_ {A = ℕ} 0 1 = cc in (omega arith))
 
 loop-less : tie.Need-loop-less Inv-loop μ-loop
-loop-less c = omega arith
+loop-less c = let inv = c .before .before .before .before .before .before .before .before .before .before .before .before .before .loop .inv in
+    let enough : bufferLength ≤ length (c .before .before .before .before .before .before .before .before .before .before .before .before .before .loop .out) = omega (arith, inv .1, inv .2) in
+    let step = called {block = c .before .before .before .before .before .before .before .before .before .before .before .before .before .before .before .before .args .block .now} {i = c .before .before .before .before .before .before .before .before .before .before .before .before .before .loop .i} enough (c .before .before .before .before .before .before .before .before .before .before .before .before .loop-test .taken) (c .before .before .before .before .before .before .before .feed .ensures) in
+    omega (arith, step .within, step .some (sym (c .before .before .before .before .before .before .before .before .before .before .before .is-closed .ensures) ∙ c .before .before .before .before .before .before .before .before .before .before .if1 .left))
 
 loop-again : tie.Need-loop-again Inv-loop μ-loop
-loop-again c = omega arith
+loop-again c = let inv = c .before .before .before .before .before .before .before .before .before .before .before .before .before .loop .inv in
+    let enough : bufferLength ≤ length (c .before .before .before .before .before .before .before .before .before .before .before .before .before .loop .out) = omega (arith, inv .1, inv .2) in
+    let step = called {block = c .before .before .before .before .before .before .before .before .before .before .before .before .before .before .before .before .args .block .now} {i = c .before .before .before .before .before .before .before .before .before .before .before .before .before .loop .i} enough (c .before .before .before .before .before .before .before .before .before .before .before .before .loop-test .taken) (c .before .before .before .before .before .before .before .feed .ensures) in
+    (step .within, inv .1, step .length-is ∙ inv .2, λ last t. inv .3 last (step .on t))
 
-returns-4 : tie.Need-returns-4 Inv-loop μ-loop
-returns-4 c = tt
+same-length-3 : tie.Need-same-length-3 Inv-loop μ-loop
+same-length-3 c = c .before .loop .inv .2
+
+returns-3 : tie.Need-returns-3 Inv-loop μ-loop
+returns-3 c = λ e. c .before .loop .inv .3 _ (at-block-end _ _ _ (c .loop-test .left))
 
 pub fed-spec : {M : Type 1} → statement M
 fed-spec =
@@ -58,15 +85,18 @@ fed-spec =
     Inv-loop
     μ-loop
     loop-holds
+    is-closed-requires
+    same-length
     returns
-    sub-step
-    part-step-start
-    part-step-end
-    step-requires
-    returns-2
-    sub-if3
-    returns-3
+    sub-feed
+    part-feed-start
+    part-feed-end
+    feed-requires
     add-i
+    written-requires
+    same-length-2
+    returns-2
     loop-less
     loop-again
-    returns-4)
+    same-length-3
+    returns-3)

@@ -1,30 +1,41 @@
--- `settle::main` is safe and ends: the turns are counted down.
--- Assumes nothing.
+-- `settle::main` meets its contract. Assumes nothing.
+use Rattle.sheets.specs.Buffer.{bufferLength}
+use lib.ListN.{length}
 use native.Mathlib.Omega.{arith}
-use Prim.Native.Nat.{_≤_}
+use mathlib.Core.Path.{_≡_}
+use borrow.Author.Needs.{needs}
 use Rattle.settle.proofs.main.Statement.{statement}
 use Rattle.settle.proofs.main.Tie as tie
 
 abbrev Inv-loop : tie.InvT-loop
-Inv-loop session₀ turns₀ session turns = 0 ≤ turns
+Inv-loop reader₀ out₀ turns₀ reader out turns = bufferLength ≡ length out
 
 abbrev μ-loop : tie.MeasureT-loop
-μ-loop session₀ turns₀ session turns = turns
+μ-loop reader₀ out₀ turns₀ reader out turns = turns
 
 new-requires : tie.Need-new-requires Inv-loop μ-loop
-new-requires c κs = tt
+new-requires c κs = search needs
 
-new-requires-2 : tie.Need-new-requires-2 Inv-loop μ-loop
-new-requires-2 c κs = tt
+blank-requires : tie.Need-blank-requires Inv-loop μ-loop
+blank-requires c κs = search needs
 
 loop-holds : tie.Need-loop-holds Inv-loop μ-loop
-loop-holds c = omega arith
+loop-holds c = c .blank .ensures
+
+is-closed-requires : tie.Need-is-closed-requires Inv-loop μ-loop
+is-closed-requires c κs = search needs
 
 returns : tie.Need-returns Inv-loop μ-loop
 returns c = tt
 
+slice-aggregate-turn : tie.Need-slice-aggregate-turn Inv-loop μ-loop
+slice-aggregate-turn c = c .before .before .before .before .loop .inv
+
 turn-requires : tie.Need-turn-requires Inv-loop μ-loop
-turn-requires c κs = tt
+turn-requires c κs = omega (arith, c .before .before .before .before .loop .inv)
+
+returns-2 : tie.Need-returns-2 Inv-loop μ-loop
+returns-2 c = tt
 
 sub-turns : tie.Need-sub-turns Inv-loop μ-loop
 sub-turns c = omega arith
@@ -33,10 +44,10 @@ loop-less : tie.Need-loop-less Inv-loop μ-loop
 loop-less c = omega arith
 
 loop-again : tie.Need-loop-again Inv-loop μ-loop
-loop-again c = omega arith
+loop-again c = search (needs, c .before .before .before .before .before .before .before .before .before .loop .inv)
 
-returns-2 : tie.Need-returns-2 Inv-loop μ-loop
-returns-2 c = tt
+returns-3 : tie.Need-returns-3 Inv-loop μ-loop
+returns-3 c = tt
 
 pub main-spec : {M : Type 1} → statement M
 main-spec =
@@ -45,11 +56,14 @@ main-spec =
     Inv-loop
     μ-loop
     new-requires
-    new-requires-2
+    blank-requires
     loop-holds
+    is-closed-requires
     returns
+    slice-aggregate-turn
     turn-requires
+    returns-2
     sub-turns
     loop-less
     loop-again
-    returns-2)
+    returns-3)

@@ -4,7 +4,7 @@ use borrow.Author.Needs.{needs}
 use mathlib.Core.Path.{_∙_}
 use mir.Syntax.{w32}
 use mir.ValLaws.{toZ-ofZ}
-use Rattle.settlement.specs.Calls.{powerInRange}
+use Rattle.vocabulary.specs.Sample.{powerInRange}
 use Rattle.settlement.proofs.grounds.in_range.Statement.{statement}
 use Rattle.settlement.proofs.grounds.in_range.Tie as tie
 

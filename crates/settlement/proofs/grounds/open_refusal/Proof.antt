@@ -7,6 +7,7 @@ use borrow.Author.Tests.{not-true, not-false}
 use Rattle.arithmetic.specs.Whole.{up, withinOf}
 use Rattle.arithmetic.proofs.Signed.{back32}
 use Rattle.settlement.specs.Calls.{secondsKnown, headerGrounds}
+use Rattle.settlement.specs.Plan.{lotMeant}
 use Rattle.settlement.proofs.grounds.open_refusal.Statement.{statement}
 use Rattle.settlement.proofs.grounds.open_refusal.Tie as tie
 
@@ -25,12 +26,14 @@ returns : tie.Need-returns
 unfolding headerGrounds
 returns c = rw (sym (interval-told (c .before)) ∙ not-true _ (c .if1 .taken))
 
+lot-meant-requires : tie.Need-lot-meant-requires
+lot-meant-requires c κs = search needs
+
 within-requires : tie.Need-within-requires
 within-requires c κs = search needs
 
-lot-told : (c : tie.After-within) → c .within .result ≡ withinOf (pos 1) (c .before .before .before .before .before .before .args .header .lot) (pos 1000000)
-lot-told c =
-    c .within .ensures ∙ rw (back32 {z = c .before .before .before .before .before .before .args .header .lot} (c .before .struct-told2 .given .1 .1 .0 .1))
+lot-told : (c : tie.After-within) → c .within .result ≡ withinOf (pos 1) (lotMeant (c .before .before .before .before .before .before .args .header .lot)) (pos 1000000)
+lot-told c = c .within .ensures ∙ rw (back32 {z = c .before .lot-meant .result} (c .before .lot-meant .ok), c .before .lot-meant .ensures)
 
 returns-2 : tie.Need-returns-2
 unfolding headerGrounds
@@ -53,7 +56,7 @@ within-requires-2 c κs = search needs
 
 quarters-told : (c : tie.After-within2) → c .within2 .result ≡ withinOf (pos 1) (c .before .before .before .before .before .before .before .before .before .before .before .before .args .header .quarters) (pos 100)
 quarters-told c =
-    c .within2 .ensures ∙ rw (back32 {z = c .before .before .before .before .before .before .before .before .before .before .before .before .args .header .quarters} (c .before .struct-told3 .given .1 .1 .1 .0 .1))
+    c .within2 .ensures ∙ rw (back32 {z = c .before .before .before .before .before .before .before .before .before .before .before .before .args .header .quarters} (c .before .struct-told2 .given .1 .1 .1 .0 .1))
 
 returns-4 : tie.Need-returns-4
 unfolding headerGrounds
@@ -78,6 +81,7 @@ open-refusal-spec =
     above-zero-requires
     seconds-known-requires
     returns
+    lot-meant-requires
     within-requires
     returns-2
     is-real-requires

@@ -5,7 +5,8 @@ use native.Mathlib.Omega.{arith}
 use mathlib.Core.Path.{_≡_, sym, _∙_}
 use borrow.Author.Tests.{le-leb, lt-leb, not-true, not-false}
 use Rattle.arithmetic.proofs.Signed.{back32}
-use Rattle.settlement.specs.Calls.{powerInRange, sampleRefusal}
+use Rattle.vocabulary.specs.Sample.{powerInRange}
+use Rattle.settlement.specs.Calls.{sampleRefusal}
 use Rattle.settlement.proofs.grounds.sample_refusal.Statement.{statement}
 use Rattle.settlement.proofs.grounds.sample_refusal.Tie as tie
 

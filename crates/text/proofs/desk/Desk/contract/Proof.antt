@@ -23,11 +23,15 @@ returns : tie.Need-returns
 unfolding contractTurn
 returns c = as-turn (refuses _ _ _ (c .before .before .before .before .before .number .ensures) (ap (λ (a : Answer). a .refusal) (c .before .before .before .before .before .before .before .contract .ensures)) (c .before .before .before .before .if1 .taken)) (c .before .before .refused .ensures)
 
+goes-on-requires : tie.Need-goes-on-requires
+goes-on-requires c κs = search needs
+
 returns-2 : tie.Need-returns-2
 unfolding contractTurn
-returns-2 c = as-turn (goes-on _ _ _ (c .before .number .ensures) (ap (λ (a : Answer). a .refusal) (c .before .before .before .contract .ensures)) (c .if1 .left)) (rw (← c .before .before .before .contract .ensures) (silent _ _ _))
+returns-2 c = as-turn (goes-on _ _ _ (c .before .before .number .ensures) (ap (λ (a : Answer). a .refusal) (c .before .before .before .before .contract .ensures)) (c .before .if1 .left))
+    (rw (← c .before .before .before .before .contract .ensures, c .goes-on .ensures) (silent _ _ _))
 
 pub contract-spec : {M : Type 1} → statement M
 contract-spec =
     tie.close
-    (tie.spec contract-requires number-requires refused-requires same-length returns returns-2)
+    (tie.spec contract-requires number-requires refused-requires same-length returns goes-on-requires returns-2)

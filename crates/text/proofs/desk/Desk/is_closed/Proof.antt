@@ -1,10 +1,11 @@
 -- `text::desk::Desk::is_closed` meets its contract.
--- Assumes nothing.
 use borrow.Author.Needs.{needs}
 use mathlib.Core.Path.{sym, ap}
 use Rattle.text.specs.Desk.{closedAt}
 use Rattle.text.proofs.desk.Desk.is_closed.Statement.{statement}
 use Rattle.text.proofs.desk.Desk.is_closed.Tie as tie
+
+-- Assumes nothing.
 
 enum-told : tie.Need-enum-told
 enum-told c = search needs

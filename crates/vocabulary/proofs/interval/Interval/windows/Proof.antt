@@ -1,4 +1,4 @@
--- `channel::interval::Interval::windows` meets its contract: an arm for each case of the definition.
+-- `vocabulary::interval::Interval::windows` meets its contract: an arm for each case of the definition.
 -- Assumes nothing.
 use borrow.Author.Needs.{needs}
 use Rattle.vocabulary.proofs.interval.Interval.windows.Statement.{statement}

@@ -1,4 +1,4 @@
--- `refusals::Refusal::number` meets its contract.
+-- `vocabulary::refusal::Refusal::number` meets its contract.
 -- Assumes nothing.
 use mathlib.Core.Path.{sym, ap}
 use Rattle.vocabulary.specs.Refusals.{numberOf}

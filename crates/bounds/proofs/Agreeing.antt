@@ -1,0 +1,38 @@
+-- Two pasts that agree as far as a ring of 302 reaches have the same windows and so the same bounds.
+-- Assumes nothing.
+use mathlib.Core.Path.{_≡_, ap₂}
+use Prim.Native.Nat.{ℕ, zero, suc, _+_, _-_, _≤_, _<_}
+use native.Mathlib.Omega.{arith}
+use lib.IntN.{ℤ}
+use Rattle.arithmetic.specs.Whole.{maxZ, minZ}
+use Rattle.vocabulary.specs.declared.interval.Interval.{Interval}
+use Rattle.vocabulary.specs.Interval.{windowsOf}
+use Rattle.bounds.specs.declared.side.Side.{Side}
+use Rattle.bounds.specs.declared.side.Side.the-variants.{Upper, Lower}
+use Rattle.bounds.specs.Windows.{over, spreadOf, gradientOf, nextOga, nextUga}
+use Rattle.bounds.specs.Side.{nextBy}
+use Rattle.bounds.proofs.Scan.{within}
+
+over-cong : (op : ℤ → ℤ → ℤ) (f g : ℕ → ℤ) (from n : ℕ) → ((k : ℕ) → k ≤ from + n → f k ≡ g k) → over op f from n ≡ over op g from n
+unfolding over
+over-cong op f g from zero h = h from (omega arith)
+over-cong op f g from (suc n) h =
+    ap₂ op (over-cong op f g from n (λ k l. h k (omega arith))) (h (from + suc n) (omega arith))
+
+module _ (i : Interval) (f g : ℕ → ℤ) (h : (k : ℕ) → k < 302 → f k ≡ g k) where
+  pub near-cong : (op : ℤ → ℤ → ℤ) → over op f 0 (windowsOf i .near - 0) ≡ over op g 0 (windowsOf i .near - 0)
+  near-cong op = over-cong op f g 0 (windowsOf i .near - 0) (λ k l. let w = within i in h k (omega arith))
+
+  pub spread-cong : (op : ℤ → ℤ → ℤ)
+      → over op f (windowsOf i .from) (windowsOf i .to - windowsOf i .from) ≡ over op g (windowsOf i .from) (windowsOf i .to - windowsOf i .from)
+  spread-cong op =
+      over-cong op f g (windowsOf i .from) (windowsOf i .to - windowsOf i .from) (λ k l. let w = within i in h k (omega arith))
+
+  gradient-cong : (lot : ℕ) → gradientOf i lot f ≡ gradientOf i lot g
+  unfolding gradientOf spreadOf
+  gradient-cong lot = rw (spread-cong maxZ, spread-cong minZ)
+
+  pub next-cong : (side : Side) (lot : ℕ) (held : ℤ) → nextBy side i lot f held ≡ nextBy side i lot g held
+  unfolding nextOga nextUga
+  next-cong Upper lot held = rw (near-cong maxZ, gradient-cong lot)
+  next-cong Lower lot held = rw (near-cong minZ, gradient-cong lot)

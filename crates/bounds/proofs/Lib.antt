@@ -1,0 +1,8 @@
+-- What the proofs share.
+pub mod Scan
+pub mod Sides
+pub mod Range
+pub mod Outside
+pub mod Agreeing
+pub mod WindowLaws
+pub mod LineLaws

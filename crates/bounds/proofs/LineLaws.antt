@@ -1,0 +1,103 @@
+-- The windows at each setpoint of a line, and where the loop that leads the bounds along it stands.
+-- Assumes nothing.
+use mathlib.Core.Path.{_≡_, refl, ap, _∙_}
+use mathlib.Core.List.{List}
+use Prim.Native.Nat.{ℕ, suc, _+_, _-_, _≤_, _<_}
+use native.Mathlib.Omega.{arith}
+use native.Mathlib.Numerals.{add-one}
+use lib.IntN.{ℤ, pos}
+use lib.ListN.{length, getD, set}
+use Rattle.series.proofs.Filling.{Tabled, tabled-none, tabled-more, tabled-all}
+use Rattle.vocabulary.specs.declared.interval.Interval.{Interval}
+use Rattle.vocabulary.specs.Interval.{windowsOf}
+use Rattle.bounds.specs.declared.side.Side.{Side}
+use Rattle.bounds.specs.declared.side.Side.the-variants.{Upper, Lower}
+use Rattle.bounds.specs.declared.bound.Seen.{Seen}
+use Rattle.bounds.specs.declared.bound.Bounds.{Bounds}
+use Rattle.bounds.specs.declared.line.Led.{Led}
+use Rattle.bounds.specs.Side.{fartherOf, seenBy, nextOf}
+use Rattle.bounds.specs.Widening.{backAt, endingAt, Reaching}
+use Rattle.bounds.specs.Line.{heldAfter, heldAt, noBounds, ledOf, Windowed, NearWindows, SpreadWindows, Shown}
+use Rattle.bounds.proofs.Scan.{within}
+use Rattle.bounds.proofs.Sides.{next-seen}
+use Rattle.bounds.proofs.WindowLaws.{earlier}
+
+-- ---- the windows: those of to - from + 1 setpoints that end `from` places before a setpoint
+
+module _ (side : Side) (line : List ℤ) (n : ℕ) (xs : List ℤ) where
+  windowed : (from to : ℕ) → from ≤ to → to < 302 → Reaching side line (to - from + 1) (302 + n) xs → Windowed side line n from to xs
+  unfolding endingAt
+  windowed from to order far r =
+      record {
+        found = λ k h.
+            let e : to - from + 1 - 1 ≡ to - from = omega arith in
+            rw e at (r .at (302 + k - from) (omega arith) (omega arith)) ∙ earlier (fartherOf side) line (302 + k) from (to - from);
+      }
+
+  pub near-windows : (i : Interval) → Reaching side line (windowsOf i .near + 1) (302 + n) xs → NearWindows side i line n xs
+  near-windows i r =
+      let w = within i in
+      let e : windowsOf i .near + 1 ≡ windowsOf i .near - 0 + 1 = omega arith in
+      windowed 0 (windowsOf i .near) (omega arith) (w .near) (rw e at r)
+
+  pub spread-windows : (i : Interval) → Reaching side line (windowsOf i .to - windowsOf i .from + 1) (302 + n) xs → SpreadWindows side i line n xs
+  spread-windows i r = let w = within i in windowed (windowsOf i .from) (windowsOf i .to) (w .order) (w .far) r
+
+-- ---- one setpoint more
+
+pub bounds-900 : length noBounds ≡ 900
+unfolding noBounds
+bounds-900 = refl
+
+module _ (i : Interval) (lot : ℕ) (line : List ℤ) (n : ℕ) (highest lowest most least : List ℤ) where
+  -- what the windows show at setpoint k
+  abbrev pub seenAt : ℕ → Seen
+  seenAt k =
+      record {
+        highest = getD highest (302 + k) (pos 0);
+        lowest = getD lowest (302 + k) (pos 0);
+        most = getD most (302 + k - windowsOf i .from) (pos 0);
+        least = getD least (302 + k - windowsOf i .from) (pos 0);
+      }
+
+  seen-at : Shown i line n highest lowest most least → (k : ℕ) → k < n → seenAt k ≡ seenBy i (backAt line (302 + k))
+  unfolding seenBy
+  seen-at s k h =
+      let e : 302 + k ≡ 302 + k - 0 = omega arith in
+      let high = rw (← e) at (s .near-upper .found k h) in
+      let low = rw (← e) at (s .near-lower .found k h) in
+      rw (high, low, s .spread-upper .found k h, s .spread-lower .found k h)
+
+-- ---- the loop over the setpoints
+
+module _ (i : Interval) (lot : ℕ) (line : List ℤ) (start : Bounds) where
+  abbrev pub lastOf : ℕ → Bounds
+  lastOf k = record { oga = record { 0 = heldAfter Upper i lot line (start .oga .0) k }; uga = record { 0 = heldAfter Lower i lot line (start .uga .0) k } }
+
+  -- where it stands after k setpoints
+  pub record Midway (last : Bounds) (ogas ugas : List ℤ) (k : ℕ) : Type 0 where
+    pub now : last ≡ lastOf k
+    pub over : Tabled (heldAt Upper i lot line (start .oga .0)) noBounds ogas k
+    pub under : Tabled (heldAt Lower i lot line (start .uga .0)) noBounds ugas k
+
+  pub midway-none : Midway start noBounds noBounds 0
+  unfolding heldAfter
+  midway-none = record { now = refl; over = tabled-none _ noBounds; under = tabled-none _ noBounds }
+
+  module _ (n : ℕ) (highest lowest most least : List ℤ) (s : Shown i line n highest lowest most least) (few : n ≤ 900) where
+    pub midway-more : (last next : Bounds) (ogas ugas : List ℤ) (k : ℕ) → k < n → next ≡ nextOf i lot (seenAt i lot line n highest lowest most least k) last
+        → Midway last ogas ugas k → Midway next (set ogas k (next .oga .0)) (set ugas k (next .uga .0)) (k + 1)
+    unfolding heldAfter
+    midway-more last next ogas ugas k h e m =
+        let shown = seen-at i lot line n highest lowest most least s k h in
+        let v : next ≡ lastOf (suc k) = rw shown at e ∙ next-seen i lot (backAt line (302 + k)) last ∙ rw (m .now) in
+        record {
+          now = rw (add-one) v;
+          over = tabled-more _ noBounds ogas k (next .oga .0) (omega (arith, bounds-900)) (ap (λ (b : Bounds). b .oga .0) v) (m .over);
+          under = tabled-more _ noBounds ugas k (next .uga .0) (omega (arith, bounds-900)) (ap (λ (b : Bounds). b .uga .0) v) (m .under);
+        }
+
+  pub midway-all : (last : Bounds) (ogas ugas : List ℤ) (k : ℕ) → Midway last ogas ugas k → _≡_ {A = Led} (record { last = last; ogas = ogas; ugas = ugas }) (ledOf i lot start line k)
+  unfolding ledOf
+  midway-all last ogas ugas k m =
+      rw (m .now, tabled-all _ noBounds ogas k (m .over), tabled-all _ noBounds ugas k (m .under))

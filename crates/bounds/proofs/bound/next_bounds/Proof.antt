@@ -1,0 +1,36 @@
+-- `bounds::bound::next_bounds` meets its contract: one gradient, and one rule for both sides.
+-- Assumes nothing.
+use borrow.Author.Needs.{needs}
+use Rattle.bounds.specs.Side.{nextOf}
+use Rattle.arithmetic.proofs.Signed.{back, back32}
+use Rattle.bounds.proofs.bound.next_bounds.Statement.{statement}
+use Rattle.bounds.proofs.bound.next_bounds.Tie as tie
+
+climb-requires : tie.Need-climb-requires
+climb-requires c κs = search needs
+
+onward-requires : tie.Need-onward-requires
+onward-requires c κs = search needs
+
+onward-requires-2 : tie.Need-onward-requires-2
+onward-requires-2 c κs = search needs
+
+returns : tie.Need-returns
+unfolding nextOf
+returns c =
+    let a = c .before .before .before .before .before .before .before .before .before .before .before .args in
+    let seen = c .before .before .before .before .before .before .before .before .before .before .struct-told .given in
+    let high = back32 {z = a .seen .highest} (seen .0 .1) in
+    let low = back32 {z = a .seen .lowest} (seen .1 .0 .1) in
+    let most = back32 {z = a .seen .most} (seen .1 .1 .0 .1) in
+    let least = back32 {z = a .seen .least} (seen .1 .1 .1 .0 .1) in
+    let oga = back {z = a .held .oga .0} (c .before .before .before .before .struct-told4 .given .0 .1) in
+    let uga = back {z = a .held .uga .0} (c .before .struct-told6 .given .0 .1) in
+    let o = c .before .before .before .onward in
+    let u = c .onward2 in
+    let g = c .before .before .before .before .before .before .before .before .climb in
+    rw (back {z = o .result} (o .ok), back {z = u .result} (u .ok), o .ensures, u .ensures)
+    (rw (back {z = g .result} (g .ok), g .ensures .0, high, low, most, least, oga, uga))
+
+pub next-bounds-spec : {M : Type 1} → statement M
+next-bounds-spec = tie.close (tie.spec climb-requires onward-requires onward-requires-2 returns)

@@ -1,0 +1,169 @@
+-- `bounds::line::bounded` meets its contract: for every line whose windows it is given, the loop stands where the line's bounds are after i setpoints.
+-- Assumes nothing.
+use native.Mathlib.Omega.{arith}
+use Prim.Native.Nat.{_+_, _-_, _≤_}
+use mathlib.Core.List.{List}
+use mathlib.Core.Path.{_≡_}
+use mir.Syntax.{w32, w64}
+use lib.IntN.{ℤ, pos}
+use lib.ListN.{getD}
+use borrow.Author.Needs.{sfits-of}
+use mir.Val.{toZ, ofZ}
+use mir.ValLaws.{toZ-ofZ}
+use Rattle.bounds.specs.Line.{Shown}
+use Rattle.arithmetic.proofs.Signed.{back}
+use Rattle.bounds.proofs.Scan.{within}
+use Rattle.bounds.proofs.LineLaws.{Midway, midway-none, midway-more, midway-all}
+use Rattle.bounds.proofs.line.bounded.Statement.{statement}
+use Rattle.bounds.proofs.line.bounded.Tie as tie
+
+abbrev Inv-loop : tie.InvT-loop
+Inv-loop interval lot n highest lowest most least from ogas₀ ugas₀ last₀ i₀ ogas ugas last i =
+    (i ≤ n) × ((line : List ℤ) → Shown interval line n highest lowest most least → Midway interval lot line last₀ last ogas ugas i)
+
+abbrev μ-loop : tie.MeasureT-loop
+μ-loop interval lot n highest lowest most least from ogas₀ ugas₀ last₀ i₀ ogas ugas last i = n - i
+
+windows-requires : tie.Need-windows-requires Inv-loop μ-loop
+windows-requires c κs = tt
+
+no-bounds-requires : tie.Need-no-bounds-requires Inv-loop μ-loop
+no-bounds-requires c κs = tt
+
+no-bounds-requires-2 : tie.Need-no-bounds-requires-2 Inv-loop μ-loop
+no-bounds-requires-2 c κs = tt
+
+loop-holds : tie.Need-loop-holds Inv-loop μ-loop
+loop-holds c =
+    let a = c .before .before .before .args in
+    (omega arith, λ line s. rw (c .before .no-bounds .ensures, c .no-bounds2 .ensures) (midway-none (a .interval) (a .lot) line (a .held)))
+
+add-t26 : tie.Need-add-t26 Inv-loop μ-loop
+add-t26 c = omega arith
+
+mul-t27 : tie.Need-mul-t27 Inv-loop μ-loop
+mul-t27 c = omega arith
+
+array-copy-out-t30 : tie.Need-array-copy-out-t30 Inv-loop μ-loop
+array-copy-out-t30 c = omega arith
+
+add-t31 : tie.Need-add-t31 Inv-loop μ-loop
+add-t31 c = omega arith
+
+mul-t32 : tie.Need-mul-t32 Inv-loop μ-loop
+mul-t32 c = omega arith
+
+array-copy-out-t35 : tie.Need-array-copy-out-t35 Inv-loop μ-loop
+array-copy-out-t35 c = omega arith
+
+add-t36 : tie.Need-add-t36 Inv-loop μ-loop
+add-t36 c = omega arith
+
+sub-t37 : tie.Need-sub-t37 Inv-loop μ-loop
+sub-t37 c = let w = within (c .before .before .before .before .before .before .before .args .interval) in rw (c .before .before .before .before .before .before .windows .ensures) (omega arith)
+
+mul-t38 : tie.Need-mul-t38 Inv-loop μ-loop
+mul-t38 c = omega arith
+
+array-copy-out-t41 : tie.Need-array-copy-out-t41 Inv-loop μ-loop
+array-copy-out-t41 c = omega arith
+
+add-t42 : tie.Need-add-t42 Inv-loop μ-loop
+add-t42 c = omega arith
+
+sub-t43 : tie.Need-sub-t43 Inv-loop μ-loop
+sub-t43 c =
+    let w = within (c .before .before .before .before .before .before .before .before .args .interval) in
+    rw (c .before .before .before .before .before .before .before .windows .ensures) (omega arith)
+
+mul-t44 : tie.Need-mul-t44 Inv-loop μ-loop
+mul-t44 c = omega arith
+
+array-copy-out-t47 : tie.Need-array-copy-out-t47 Inv-loop μ-loop
+array-copy-out-t47 c = omega arith
+
+next-bounds-requires : tie.Need-next-bounds-requires Inv-loop μ-loop
+next-bounds-requires c κs = tt
+
+mul-ogas : tie.Need-mul-ogas Inv-loop μ-loop
+mul-ogas c = omega arith
+
+array-set-from-ogas : tie.Need-array-set-from-ogas Inv-loop μ-loop
+array-set-from-ogas c = omega arith
+
+mul-ugas : tie.Need-mul-ugas Inv-loop μ-loop
+mul-ugas c = omega arith
+
+array-set-from-ugas : tie.Need-array-set-from-ugas Inv-loop μ-loop
+array-set-from-ugas c = omega arith
+
+add-i : tie.Need-add-i Inv-loop μ-loop
+add-i c = omega arith
+
+loop-less : tie.Need-loop-less Inv-loop μ-loop
+loop-less c = omega arith
+
+loop-again : tie.Need-loop-again Inv-loop μ-loop
+loop-again c =
+    let start = c .before .before .before .before .before .before .before .before .before .before .before .before .before .before in
+    let a = start .args in
+    let l = c .before .before .before .before .before .before .before .before .before .before .loop in
+    let r = c .before .before .before .before .next-bounds .result in
+    let windows = c .before .before .before .before .before .before .before .before .before .before .before .before .before .windows in
+    let from = windows .result .from in
+    let high = toZ-ofZ w32 (getD (a .t4) (302 + l .i) (pos 0)) (sfits-of (c .before .before .before .before .before .before .before .before .t30 .given)) in
+    let low = toZ-ofZ w32 (getD (a .t5) (302 + l .i) (pos 0)) (sfits-of (c .before .before .before .before .before .before .before .t35 .given)) in
+    let most = toZ-ofZ w32 (getD (a .t6) (302 + l .i - from) (pos 0)) (sfits-of (c .before .before .before .before .before .before .t41 .given)) in
+    let least = toZ-ofZ w32 (getD (a .t7) (302 + l .i - from) (pos 0)) (sfits-of (c .before .before .before .before .before .t47 .given)) in
+    let oga : toZ w64 (ofZ w64 (r .oga .0)) ≡ r .oga .0 = back {z = r .oga .0} (c .before .struct-told .given .0 .1) in
+    let uga : toZ w64 (ofZ w64 (r .uga .0)) ≡ r .uga .0 = back {z = r .uga .0} (c .struct-told2 .given .0 .1) in
+    let e = rw (high, low, most, least, windows .ensures) at (c .before .before .before .before .next-bounds .ensures) in
+    let few : a .n ≤ 900 = start .pre in
+    let h = c .before .before .before .before .before .before .before .before .before .loop-test .taken in (
+      omega arith,
+      λ line s.
+          let m = midway-more (a .interval) (a .lot) line (a .held) (a .n) (a .t4) (a .t5) (a .t6) (a .t7) s few in
+          rw (oga, uga) (m (l .last) r (l .ogas) (l .ugas) (l .i) h e (l .inv .1 line s)),
+    )
+
+returns : tie.Need-returns Inv-loop μ-loop
+returns c =
+    let a = c .before .before .before .before .before .args in
+    let l = c .before .loop in
+    let e : l .i ≡ a .n = omega (arith, l .inv .0, c .loop-test .left) in
+    λ line s.
+    rw e at (midway-all (a .interval) (a .lot) line (a .held) (l .last) (l .ogas) (l .ugas) (l .i) (l .inv .1 line s))
+
+pub bounded-spec : {M : Type 1} → statement M
+bounded-spec =
+    tie.close
+    (tie.spec
+    Inv-loop
+    μ-loop
+    windows-requires
+    no-bounds-requires
+    no-bounds-requires-2
+    loop-holds
+    add-t26
+    mul-t27
+    array-copy-out-t30
+    add-t31
+    mul-t32
+    array-copy-out-t35
+    add-t36
+    sub-t37
+    mul-t38
+    array-copy-out-t41
+    add-t42
+    sub-t43
+    mul-t44
+    array-copy-out-t47
+    next-bounds-requires
+    mul-ogas
+    array-set-from-ogas
+    mul-ugas
+    array-set-from-ugas
+    add-i
+    loop-less
+    loop-again
+    returns)

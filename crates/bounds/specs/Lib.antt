@@ -1,0 +1,4 @@
+pub mod Windows
+pub mod Side
+pub mod Widening
+pub mod Line

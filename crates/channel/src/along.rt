@@ -1,0 +1,75 @@
+// What leading a channel along up to 900 setpoints at once is made of: the ring and the setpoints as one line, and the ring after it.
+use crate::Channel;
+ghost use mathlib.Core.Path.{_≡_};
+ghost use Prim.Native.Nat.{_+_, _≤_, _<_};
+ghost use lib.ListN.{length};
+ghost use Rattle.series.specs.Places.{Fills};
+ghost use Rattle.bounds.specs.Line.{noBounds};
+ghost use Rattle.channel.specs.Along.{agedAt, ringAt, Lined};
+
+// The channel after setpoints, and OGA and UGA at each, in units.
+pub struct Track {
+    pub channel: Channel,
+    pub ogas: [i64; 900],
+    pub ugas: [i64; 900],
+}
+
+pub(crate) fn no_bounds() -> [i64; 900]
+    ensures { λ r. ⌜ r ≡ noBounds ⌝ }
+{
+    [0i64; 900]
+}
+
+fn no_ring() -> [i32; 302]
+    ensures { λ r. ⌜ length r ≡ 302 ⌝ }
+{
+    [0i32; 302]
+}
+
+fn no_line() -> [i32; 1202]
+    ensures { λ r. ⌜ length r ≡ 1202 ⌝ }
+{
+    [0i32; 1202]
+}
+
+// A line that begins with the setpoints of the ring, oldest first.
+fn aged(ring: [i32; 302], newest: usize) -> [i32; 1202]
+    requires { ⌜ newest < 302 ⌝ }
+    ensures { λ r. ⌜ ((length ring ≡ 302) × (length r ≡ 1202)) × Fills (agedAt ring newest) 0 302 r ⌝ }
+{
+    let mut out = no_line();
+    let mut k = 0;
+    while k < 302 {
+        out[k] = ring[(newest + 1 + k) % 302];
+        k += 1;
+    }
+    out
+}
+
+// The same with the setpoints that follow the ring's.
+pub(crate) fn lined(ring: [i32; 302], newest: usize, setpoints: [i32; 900], n: usize) -> [i32; 1202]
+    requires { ⌜ (newest < 302) × (n ≤ 900) ⌝ }
+    ensures { λ r. ⌜ Lined ring newest setpoints r n ⌝ }
+{
+    let mut out = aged(ring, newest);
+    let mut i = 0;
+    while i < n {
+        out[302 + i] = setpoints[i];
+        i += 1;
+    }
+    out
+}
+
+// The ring that holds the last 302 setpoints of a line.
+pub(crate) fn ringed(line: [i32; 1202], n: usize, newest: usize) -> [i32; 302]
+    requires { ⌜ (n ≤ 900) × (newest < 302) ⌝ }
+    ensures { λ r. ⌜ (length r ≡ 302) × Fills (ringAt line n newest) 0 302 r ⌝ }
+{
+    let mut ring = no_ring();
+    let mut k = 0;
+    while k < 302 {
+        ring[k] = line[301 + n - (newest + 302 - k) % 302];
+        k += 1;
+    }
+    ring
+}

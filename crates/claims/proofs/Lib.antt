@@ -1,0 +1,12 @@
+pub mod Blanks
+pub mod PowerLaws
+pub mod Cuts
+pub mod Joining
+pub mod Rests
+pub mod Claims
+pub mod Cap
+pub mod Prefix
+pub mod Quarters
+pub mod Following
+pub mod History
+pub mod SideLaws

@@ -1,0 +1,59 @@
+-- `claims::side::Side::claims` meets its contract. Each quantity is cut for all contracts at once, and the claims are made of the energies place by place (Joining).
+-- Assumes nothing.
+use Rattle.claims.proofs.Cuts.{same-cuts, cuts-enough}
+use Rattle.claims.proofs.Joining.{joined-claims}
+use Rattle.claims.specs.Sides.{powersIn}
+use Rattle.claims.proofs.side.Side.claims.Statement.{statement}
+use native.Mathlib.Omega.{arith}
+use borrow.Author.Needs.{needs}
+use Rattle.claims.proofs.side.Side.claims.Tie as tie
+
+limits-requires : tie.Need-limits-requires
+limits-requires c κs = search needs
+
+slices-requires : tie.Need-slices-requires
+slices-requires c κs = search needs
+
+slices-requires-2 : tie.Need-slices-requires-2
+slices-requires-2 c κs = search needs
+
+slices-requires-3 : tie.Need-slices-requires-3
+slices-requires-3 c κs = search needs
+
+slices-requires-4 : tie.Need-slices-requires-4
+slices-requires-4 c κs = search needs
+
+shortfalls-requires : tie.Need-shortfalls-requires
+shortfalls-requires c κs = search needs
+
+joined-requires : tie.Need-joined-requires
+joined-requires c κs = search needs
+
+returns : tie.Need-returns
+returns c =
+    let shortfall = c .before in
+    let floor = shortfall .before in
+    let acceptance = floor .before in
+    let actual = acceptance .before in
+    let setpoint = actual .before in
+    let upper = setpoint .before in
+    let s = upper .before in
+    let a = s .args in
+    rw (
+      c .joined .ensures,
+      joined-claims (a .self .seconds) (powersIn (a .self)) (upper .limits .result) (a .count) (setpoint .slices .result) (actual .slices2 .result) (acceptance .slices3 .result)
+          (floor .slices4 .result) (shortfall .shortfalls .result) (rw (upper .limits .ensures) (cuts-enough (a .terms) (a .count) (omega (arith, s .good, s .pre .0))))
+          (omega (arith, setpoint .slices .ok, s .pre .0))
+          (record {
+            setpoint = setpoint .slices .ensures;
+            actual = actual .slices2 .ensures;
+            acceptance = acceptance .slices3 .ensures;
+            floor = floor .slices4 .ensures;
+            shortfall = shortfall .shortfalls .ensures;
+          }),
+      upper .limits .ensures,
+      same-cuts (a .terms) (a .count),
+    )
+
+pub claims-spec : {M : Type 1} → statement M
+claims-spec = tie.close (tie.spec limits-requires slices-requires slices-requires-2 slices-requires-3 slices-requires-4 shortfalls-requires joined-requires returns)

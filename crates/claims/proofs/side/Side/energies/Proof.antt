@@ -1,0 +1,66 @@
+-- `claims::side::Side::energies` meets its contract.
+-- Assumes nothing.
+use Rattle.claims.specs.Claims.{energiesOf}
+use Rattle.claims.proofs.side.Side.energies.Statement.{statement}
+use native.Mathlib.Omega.{arith}
+use lib.Seq.{length-take-le}
+use lib.ListN.{length, take}
+use mathlib.Core.Path.{_≡_}
+use Rattle.claims.proofs.side.Side.energies.Tie as tie
+
+energy-requires : tie.Need-energy-requires
+energy-requires c κs = c .pre .1
+
+energy-requires-2 : tie.Need-energy-requires-2
+energy-requires-2 c κs = c .before .pre .1
+
+energy-requires-3 : tie.Need-energy-requires-3
+energy-requires-3 c κs = c .before .before .pre .1
+
+energy-requires-4 : tie.Need-energy-requires-4
+energy-requires-4 c κs = c .before .before .before .pre .1
+
+energy-requires-5 : tie.Need-energy-requires-5
+energy-requires-5 c κs = c .before .before .before .before .pre .1
+
+energy-requires-6 : tie.Need-energy-requires-6
+energy-requires-6 c κs = c .before .before .before .before .before .pre .1
+
+claims-requires : tie.Need-claims-requires
+claims-requires c κs = c .before .before .before .before .before .before .pre
+
+returns : tie.Need-returns
+unfolding energiesOf
+returns c =
+    let under-delivery = c .before in
+    let shortfall = under-delivery .before in
+    let surplus = shortfall .before in
+    let acceptance = surplus .before in
+    let actual = acceptance .before in
+    let setpoint = actual .before in
+    let s = setpoint .before in
+    let a = s .args in
+    let n : length (take (a .count) (a .terms)) ≡ a .count = length-take-le (a .count) (a .terms) (omega (arith, s .good, s .pre .0)) in
+    rw (
+      setpoint .energy .ensures,
+      actual .energy2 .ensures,
+      acceptance .energy3 .ensures,
+      surplus .energy4 .ensures,
+      shortfall .energy5 .ensures,
+      under-delivery .energy6 .ensures,
+      c .claims .ensures,
+      n,
+    )
+
+pub energies-spec : {M : Type 1} → statement M
+energies-spec =
+    tie.close
+    (tie.spec
+    energy-requires
+    energy-requires-2
+    energy-requires-3
+    energy-requires-4
+    energy-requires-5
+    energy-requires-6
+    claims-requires
+    returns)

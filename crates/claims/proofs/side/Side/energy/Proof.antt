@@ -1,0 +1,29 @@
+-- `claims::side::Side::energy` meets its contract. What lies above no limit at all is the whole series, and it fits (Joining).
+-- Assumes nothing.
+use Rattle.series.specs.Cuts.{noSums}
+use Rattle.claims.specs.Sides.{powersIn}
+use Rattle.claims.proofs.Joining.{rest-fits, rest-whole}
+use Rattle.claims.proofs.side.Side.energy.Statement.{statement}
+use borrow.Author.Needs.{needs}
+use Rattle.claims.proofs.side.Side.energy.Tie as tie
+
+pieces-requires : tie.Need-pieces-requires
+pieces-requires c κs = search needs
+
+mul-energy : tie.Need-mul-energy
+mul-energy c =
+    let a = c .before .before .before .args in
+    let p = c .before .before .pieces in
+    record { fits = rw (p .ensures .0) (rest-fits (a .self .seconds) (powersIn (a .self) (a .quantity)) noSums (p .ensures .1)) }
+
+energy-requires : tie.Need-energy-requires
+energy-requires c κs = tt
+
+returns : tie.Need-returns
+returns c =
+    let a = c .before .before .before .before .args in
+    let p = c .before .before .before .pieces in
+    rw (c .energy .ensures, p .ensures .0) (rest-whole (a .self .seconds) (powersIn (a .self) (a .quantity)) noSums (p .ensures .1))
+
+pub energy-spec : {M : Type 1} → statement M
+energy-spec = tie.close (tie.spec pieces-requires mul-energy energy-requires returns)

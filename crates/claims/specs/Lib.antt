@@ -1,0 +1,5 @@
+pub mod Powers
+pub mod Claims
+pub mod Blank
+pub mod Room
+pub mod Sides

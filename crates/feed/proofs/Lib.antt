@@ -1,0 +1,4 @@
+pub mod DeskLaws
+pub mod ReaderLaws
+pub mod Feeding
+pub mod UsedLaws

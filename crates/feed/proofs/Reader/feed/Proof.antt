@@ -1,0 +1,34 @@
+-- `feed::Reader::feed` meets its contract. Assumes nothing.
+use Rattle.feed.proofs.ReaderLaws.{too-short, fed-whole}
+use borrow.Author.Needs.{needs}
+use Rattle.feed.proofs.Reader.feed.Statement.{statement}
+use Rattle.feed.proofs.Reader.feed.Tie as tie
+
+returns : tie.Need-returns
+returns c = too-short _ _ _ (c .if1 .taken)
+
+slice-aggregate-read-on : tie.Need-slice-aggregate-read-on
+slice-aggregate-read-on c = search needs
+
+slice-aggregate-read-on-2 : tie.Need-slice-aggregate-read-on-2
+slice-aggregate-read-on-2 c = search needs
+
+read-on-requires : tie.Need-read-on-requires
+read-on-requires c κs = search needs
+
+same-length : tie.Need-same-length
+same-length c = search needs
+
+returns-2 : tie.Need-returns-2
+returns-2 c = fed-whole (c .before .before .before .before .before .before .before .before .before .if1 .left) (c .before .before .before .before .before .read-on .ensures)
+
+pub feed-spec : {M : Type 1} → statement M
+feed-spec =
+    tie.close
+    (tie.spec
+    returns
+    slice-aggregate-read-on
+    slice-aggregate-read-on-2
+    read-on-requires
+    same-length
+    returns-2)

@@ -1,0 +1,11 @@
+pub mod Places
+pub mod DigitScan
+pub mod UnsignedForm
+pub mod PowerForm
+pub mod LineForm
+pub mod LineScan
+pub mod StretchLaws
+pub mod CutLaws
+pub mod BlockLaws
+pub mod Meaning
+pub mod StretchFed

@@ -1,0 +1,338 @@
+-- A sample line in range by its bytes, and by what the line says.
+use Prim.Native.Nat.{ℕ, suc, _+_, _*_, _-_, _≤_, _<_}
+use mathlib.Core.Path.{_≡_, refl, sym, ap, _∙_}
+use mathlib.Core.Bool.{Bool, true, false, cond, _&&_}
+use mathlib.Core.List.{List, [], _∷_, _++_, append-assoc, append-nil}
+use native.Mathlib.Omega.{arith}
+use native.Mathlib.Decide.{ℕ-discrete}
+use borrow.Author.Tests.{le-ltb, ne-eqb, eqb-true}
+use lib.ListN.{length, drop, length-append}
+use lib.Dec.{eqb, ltb}
+use lib.IntN.{ℤ}
+use Rattle.vocabulary.specs.declared.sample.Sample.{Sample}
+use Rattle.fields.specs.Fields.{fields, fieldAt, onFirst}
+use Rattle.fields.proofs.FieldLaws.{numbered, counted}
+use Rattle.fields.specs.Numbers.{valueFrom, unsignedOf, numberOf}
+use Rattle.fields.specs.declared.number.Digits.the-variants as F
+use Rattle.fields.specs.declared.number.Number.{Number}
+use Rattle.fields.specs.declared.number.Number.the-variants as N
+use Rattle.fields.specs.declared.day.Day.{Day}
+use Rattle.fields.specs.declared.day.Day.the-variants as D
+use Rattle.lines.specs.Lines.{linesOf}
+use Rattle.lines.proofs.LineLaws.{NoLf, none, another, Written, last, ended, read-back, written}
+use Rattle.fields.specs.Day.{dayOf}
+use Rattle.reading.specs.Line.{isLetter, kindOf, sideOf, lotOf, headerFields, contractFields, sampleFields, headerOf, contractOf, sampleOf, endOf, byKind, lineOf}
+use Rattle.reading.specs.declared.Kind.{Kind}
+use Rattle.reading.specs.declared.Kind.the-variants as K
+use Rattle.reading.specs.declared.Side.{Side}
+use Rattle.reading.specs.declared.LotField.{LotField}
+use Rattle.reading.specs.declared.LotField.the-variants as LF
+use Rattle.reading.specs.declared.Side.the-variants as S
+use Rattle.reading.specs.declared.Line.{Line}
+use Rattle.reading.specs.declared.Line.the-variants as L
+use Rattle.vocabulary.specs.Sample.{powerInRange}
+use Rattle.samples.specs.Scan.{rowOf, firstOf}
+use Rattle.samples.specs.declared.Row.{Row}
+use Rattle.samples.specs.declared.First.{First}
+use Rattle.samples.specs.declared.First.the-variants as R
+use Rattle.samples.proofs.DigitScan.{is-digit, digit-of, after-digit}
+use Rattle.samples.proofs.UnsignedForm.{plain-of, short}
+use Rattle.samples.proofs.PowerForm.{number-plain, number-minus, no-number, above, below, range-pos, range-neg}
+
+-- S, a tab, a power, a tab, a power and an LF at a place
+pub record Shape (s : List ℕ) (at : ℕ) (row : Row) : Type 0 where
+  pub a : List ℕ
+  pub b : List ℕ
+  pub rest : List ℕ
+  pub form : drop at s ≡ 83 ∷ (9 ∷ (a ++ (9 ∷ (b ++ (10 ∷ rest)))))
+  pub setpoint : numberOf a ≡ N.Value (row .setpoint)
+  pub actual : numberOf b ≡ N.Value (row .actual)
+  pub setpoint-ranged : powerInRange (row .setpoint) ≡ true
+  pub actual-ranged : powerInRange (row .actual) ≡ true
+  pub place : row .to ≡ at + 2 + length a + 1 + length b + 1
+
+-- a number has neither tabs nor LFs
+data Solid : List ℕ → Type 0 where
+  empty : Solid []
+  more : {x : ℕ} {xs : List ℕ} → 10 < x → Solid xs → Solid (x ∷ xs)
+
+solid-digits : (bytes : List ℕ) (v w : ℕ) → valueFrom v bytes ≡ F.Value w → Solid bytes
+solid-digits [] v w e = empty
+solid-digits (x ∷ xs) v w e =
+    let d = is-digit x (digit-of v x w xs e) in
+    let g : 10 < x = omega arith in
+    more g (solid-digits xs (v * 10 + (x - 48)) w (after-digit v x w xs e))
+
+-- and few bytes, if it is a power
+record Short (bytes : List ℕ) : Type 0 where
+  solid : Solid bytes
+  few : length bytes ≤ 8
+
+short-unsigned : (bytes : List ℕ) (n : ℕ) → unsignedOf 9 bytes ≡ F.Value n → n ≤ 2000000 → Solid bytes × (length bytes ≤ 7)
+short-unsigned bytes n e h = let p = plain-of bytes n e in (solid-digits bytes 0 n (p .says), short bytes n p h)
+
+short-number : (bytes : List ℕ) (z : ℤ) → numberOf bytes ≡ N.Value z → powerInRange z ≡ true → Short bytes
+short-number [] z e r = absurd (no-number z e)
+short-number (x ∷ xs) z e r =
+    elim (ℕ-discrete x 45) [
+      | yes q ↦
+          let m = below (unsignedOf 9 xs) z (sym (number-minus x xs q) ∙ e) in
+          let l = range-neg (m .n) (sym (ap powerInRange (m .is)) ∙ r) in
+          let p = short-unsigned xs (suc (m .n)) (m .says) (omega arith) in
+          let g : 10 < x = omega arith in
+          record { solid = more g (p .0); few = omega (arith, p .1) }
+      | no q ↦
+          let m = above (unsignedOf 9 (x ∷ xs)) z (sym (number-plain x xs q) ∙ e) in
+          let p = short-unsigned (x ∷ xs) (m .n) (m .says) (range-pos (m .n) (sym (ap powerInRange (m .is)) ∙ r)) in
+          record { solid = p .0; few = omega (arith, p .1) }
+    ]
+
+-- fields with no tab in them
+fields-tab : (xs : List ℕ) → fields (9 ∷ xs) ≡ [] ∷ fields xs
+unfolding fields
+fields-tab xs = refl
+
+fields-other : (x : ℕ) (xs : List ℕ) → (x ≡ 9 → ⊥) → fields (x ∷ xs) ≡ onFirst x (fields xs)
+unfolding fields
+fields-other x xs e = rw (ne-eqb x 9 e)
+
+fields-none : fields [] ≡ [] ∷ []
+unfolding fields
+fields-none = refl
+
+field-before : {a : List ℕ} (l : List ℕ) → Solid a → fields (a ++ (9 ∷ l)) ≡ a ∷ fields l
+field-before l empty = fields-tab l
+field-before l (more {x} {xs} h s) = fields-other x (xs ++ (9 ∷ l)) (λ e. omega arith) ∙ ap (onFirst x) (field-before l s)
+
+field-last : {b : List ℕ} → Solid b → fields b ≡ b ∷ []
+field-last empty = fields-none
+field-last (more {x} {xs} h s) = fields-other x xs (λ e. omega arith) ∙ ap (onFirst x) (field-last s)
+
+-- lines with no LF in them
+not-lf : {x : ℕ} → 10 < x → x ≡ 10 → ⊥
+not-lf h e = omega arith
+
+letter-lf : _≡_ {A = ℕ} 83 10 → ⊥
+letter-lf e = omega arith
+
+tab-lf : _≡_ {A = ℕ} 9 10 → ⊥
+tab-lf e = omega arith
+
+no-lf : {a b : List ℕ} → Solid a → NoLf b → NoLf (a ++ b)
+no-lf empty n = n
+no-lf (more h s) n = another (not-lf h) (no-lf s n)
+
+solid-lf : {b : List ℕ} → Solid b → NoLf b
+solid-lf empty = none
+solid-lf (more h s) = another (not-lf h) (solid-lf s)
+
+-- what the line says
+module _ (a b : List ℕ) (x y : ℤ) (p : numberOf a ≡ N.Value x) (q : numberOf b ≡ N.Value y) (u : powerInRange x ≡ true) (v : powerInRange y ≡ true) where
+  three : fields (83 ∷ (9 ∷ (a ++ (9 ∷ b)))) ≡ (83 ∷ []) ∷ (a ∷ (b ∷ []))
+  three =
+      fields-other 83 (9 ∷ (a ++ (9 ∷ b))) (λ e. omega arith)
+      ∙ ap (onFirst 83)
+      (fields-tab (a ++ (9 ∷ b))
+      ∙ ap (λ (fs : List (List ℕ)). [] ∷ fs)
+      (field-before b (short-number a x p u .solid) ∙ ap (λ (fs : List (List ℕ)). a ∷ fs) (field-last (short-number b y q v .solid))))
+
+  pub sample-line : lineOf (83 ∷ (9 ∷ (a ++ (9 ∷ b)))) ≡ L.Sample (record { setpoint = x; actual = y })
+  unfolding lineOf fieldAt kindOf isLetter sampleOf
+  sample-line =
+      let few : length (83 ∷ (9 ∷ (a ++ (9 ∷ b)))) ≤ 80 = (let k = short-number a x p u .few in let l = short-number b y q v .few in omega (arith, length-append a (9 ∷ b))) in
+      rw (le-ltb _ _ few, three, p, q)
+
+-- the line ends where its LF stands
+module _ (a b rest : List ℕ) where
+  one-line : 83 ∷ (9 ∷ (a ++ (9 ∷ (b ++ (10 ∷ rest))))) ≡ (83 ∷ (9 ∷ (a ++ (9 ∷ b)))) ++ (10 ∷ rest)
+  one-line = ap (λ (l : List ℕ). 83 ∷ (9 ∷ l)) (sym (append-assoc a (9 ∷ b) (10 ∷ rest)))
+
+  line-length : length (83 ∷ (9 ∷ (a ++ (9 ∷ b)))) ≡ 3 + length a + length b
+  line-length = omega (arith, length-append a (9 ∷ b))
+
+abbrev pub lineIn : List ℕ → List ℕ → List ℕ
+lineIn a b = 83 ∷ (9 ∷ (a ++ (9 ∷ b)))
+
+module _ {s : List ℕ} {at : ℕ} {row : Row} (h : Shape s at row) where
+  pub shape-lines : linesOf (drop at s) ≡ lineIn (h .a) (h .b) ∷ linesOf (h .rest)
+  shape-lines =
+      let sa = short-number (h .a) (row .setpoint) (h .setpoint) (h .setpoint-ranged) in
+      let sb = short-number (h .b) (row .actual) (h .actual) (h .actual-ranged) in
+      let n : NoLf (lineIn (h .a) (h .b)) = another letter-lf (another tab-lf (no-lf (sa .solid) (another tab-lf (solid-lf (sb .solid))))) in
+      ap linesOf (h .form ∙ one-line (h .a) (h .b) (h .rest)) ∙ read-back (ended n (written (h .rest)))
+
+  pub shape-says : lineOf (lineIn (h .a) (h .b)) ≡ L.Sample (record { setpoint = row .setpoint; actual = row .actual })
+  shape-says = sample-line (h .a) (h .b) (row .setpoint) (row .actual) (h .setpoint) (h .actual) (h .setpoint-ranged) (h .actual-ranged)
+
+  pub shape-place : at + (length (lineIn (h .a) (h .b)) + 1) ≡ row .to
+  shape-place = omega (arith, line-length (h .a) (h .b) (h .rest), h .place)
+
+  pub shape-first : firstOf at (linesOf (drop at s)) ≡ R.Of row
+  unfolding firstOf
+  shape-first = rw (shape-lines, shape-says, h .setpoint-ranged, h .actual-ranged, shape-place)
+
+-- and the other way round: a line that says a sample in range has that shape
+record Split (line : List ℕ) (lines : List (List ℕ)) (t : List ℕ) : Type 0 where
+  rest : List ℕ
+  form : t ≡ line ++ (10 ∷ rest)
+
+split : {ls : List (List ℕ)} {t : List ℕ} → Written ls t → (line : List ℕ) (lines : List (List ℕ)) → ls ≡ line ∷ lines → Split line lines t
+split (last n) line lines e = absurd (let q : _≡_ {A = ℕ} 0 1 = cc in (omega arith))
+split (ended {line = l} {lines = ls} {input} n w) line lines e = let q : l ≡ line = cc in record { rest = input; form = rw q }
+
+-- the fields, each after a tab
+abbrev tabbed : List (List ℕ) → List ℕ
+tabbed [] = []
+tabbed (f ∷ fs) = 9 ∷ (f ++ tabbed fs)
+
+parted : (l : List ℕ) → 9 ∷ l ≡ tabbed (fields l)
+parted [] = rw fields-none
+parted (x ∷ xs) =
+    elim (ℕ-discrete x 9) [
+      | yes e ↦ rw (e, fields-tab xs) (ap (λ (l : List ℕ). 9 ∷ l) (parted xs))
+      | no e ↦ rw (fields-other x xs e) (before (fields xs) (parted xs))
+    ]
+  where
+    before : (fs : List (List ℕ)) → 9 ∷ xs ≡ tabbed fs → 9 ∷ (x ∷ xs) ≡ tabbed (onFirst x fs)
+    before [] q = absurd (let z : _≡_ {A = ℕ} 0 1 = cc in (omega arith))
+    before (f ∷ fs) q = let r : xs ≡ f ++ tabbed fs = cc in ap (λ (l : List ℕ). 9 ∷ (x ∷ l)) r
+
+-- what passed a test
+kind-passed : (b : Bool) (k l : Kind) → (k ≡ K.Sample → ⊥) → cond b k l ≡ K.Sample → l ≡ K.Sample
+kind-passed true k l n e = absurd (n e)
+kind-passed false k l n e = e
+
+kind-sample : (b : Bool) (l : Kind) → (l ≡ K.Sample → ⊥) → cond b K.Sample l ≡ K.Sample → b ≡ true
+kind-sample true l n e = refl
+kind-sample false l n e = absurd (n e)
+
+kind-end : (b : Bool) → cond b K.End K.Unknown ≡ K.Sample → ⊥
+kind-end true e = let q : _≡_ {A = ℕ} 0 1 = cc in omega arith
+kind-end false e = let q : _≡_ {A = ℕ} 0 1 = cc in omega arith
+
+letter : (f : List ℕ) (x : ℕ) → isLetter x f ≡ true → f ≡ x ∷ []
+unfolding isLetter
+letter [] x e = absurd (let q : _≡_ {A = ℕ} 0 1 = cc in (omega arith))
+letter (y ∷ []) x e = ap (λ (z : ℕ). z ∷ []) (eqb-true y x e)
+letter (y ∷ (z ∷ zs)) x e = absurd (let n : (suc (suc (length zs)) ≡ 1 → ⊥) = λ h. omega arith in let q : _≡_ {A = ℕ} 0 1 = cc (ne-eqb _ _ n) in (omega arith))
+
+kind-letter : (f : List ℕ) → kindOf f ≡ K.Sample → f ≡ 83 ∷ []
+unfolding kindOf
+kind-letter f e =
+    letter f 83
+    (kind-sample (isLetter 83 f) _ (kind-end (isLetter 69 f))
+    (kind-passed (isLetter 67 f) _ _ (λ q. (let z : _≡_ {A = ℕ} 0 1 = cc in omega arith))
+    (kind-passed (isLetter 68 f) _ _ (λ q. (let z : _≡_ {A = ℕ} 0 1 = cc in omega arith)) e)))
+
+-- no other kind of line says a sample
+no-header : (d : Day) (i : Number) (l : LotField) (q : Number) (s : Sample) → headerFields d i l q ≡ L.Sample s → ⊥
+no-header (D.Of d) (N.Value i) (LF.Of l) (N.Value q) s e = let z : _≡_ {A = ℕ} 0 1 = cc in omega arith
+no-header (D.Of d) (N.Value i) (LF.Of l) N.Malformed s e = let z : _≡_ {A = ℕ} 0 1 = cc in omega arith
+no-header (D.Of d) (N.Value i) LF.Malformed q s e = let z : _≡_ {A = ℕ} 0 1 = cc in omega arith
+no-header (D.Of d) N.Malformed l q s e = let z : _≡_ {A = ℕ} 0 1 = cc in omega arith
+no-header D.Malformed i l q s e = let z : _≡_ {A = ℕ} 0 1 = cc in omega arith
+
+no-contract : (d : Side) (a p : Number) (s : Sample) → contractFields d a p ≡ L.Sample s → ⊥
+no-contract (S.Of d) (N.Value a) (N.Value p) s e = let z : _≡_ {A = ℕ} 0 1 = cc in omega arith
+no-contract (S.Of d) (N.Value a) N.Malformed s e = let z : _≡_ {A = ℕ} 0 1 = cc in omega arith
+no-contract (S.Of d) N.Malformed p s e = let z : _≡_ {A = ℕ} 0 1 = cc in omega arith
+no-contract S.Malformed a p s e = let z : _≡_ {A = ℕ} 0 1 = cc in omega arith
+
+of-fields : (b : Bool) (l : Line) (s : Sample) → cond b l L.Malformed ≡ L.Sample s → (b ≡ true) × (l ≡ L.Sample s)
+of-fields true l s e = (refl, e)
+of-fields false l s e = absurd (let z : _≡_ {A = ℕ} 0 1 = cc in (omega arith))
+
+not-long : (b : Bool) (l : Line) (s : Sample) → cond b L.Malformed l ≡ L.Sample s → l ≡ L.Sample s
+not-long true l s e = absurd (let z : _≡_ {A = ℕ} 0 1 = cc in (omega arith))
+not-long false l s e = e
+
+two : (x y : Number) (s : Sample) → sampleFields x y ≡ L.Sample s → (x ≡ N.Value (s .setpoint)) × (y ≡ N.Value (s .actual))
+two (N.Value x) (N.Value y) s e =
+    let q : _≡_ {A = Sample} (record { setpoint = x; actual = y }) s = cc in
+    (ap (λ (t : Sample). N.Value (t .setpoint)) q, ap (λ (t : Sample). N.Value (t .actual)) q)
+two (N.Value x) N.Malformed s e = absurd (let z : _≡_ {A = ℕ} 0 1 = cc in (omega arith))
+two N.Malformed y s e = absurd (let z : _≡_ {A = ℕ} 0 1 = cc in (omega arith))
+
+by-kind : (k : Kind) (fs : List (List ℕ)) (s : Sample) → byKind k fs ≡ L.Sample s → (k ≡ K.Sample) × (sampleOf fs ≡ L.Sample s)
+unfolding headerOf contractOf endOf
+by-kind K.Header fs s e =
+    absurd
+    (no-header (dayOf (fieldAt 1 fs)) (numberOf (fieldAt 2 fs)) (lotOf (fieldAt 3 fs)) (numberOf (fieldAt 4 fs)) s
+    (of-fields (eqb (length fs) 5) _ s e .1))
+by-kind K.Contract fs s e =
+    absurd
+    (no-contract (sideOf (fieldAt 1 fs)) (numberOf (fieldAt 3 fs)) (numberOf (fieldAt 4 fs)) s
+    (of-fields (eqb (length fs) 5) _ s e .1))
+by-kind K.Sample fs s e = (refl, e)
+by-kind K.End fs s e = absurd (let q : L.End ≡ L.Sample s = of-fields (eqb (length fs) 1) _ s e .1 in let z : _≡_ {A = ℕ} 0 1 = cc in (omega arith))
+by-kind K.Unknown fs s e = absurd (let z : _≡_ {A = ℕ} 0 1 = cc in (omega arith))
+
+-- what a sample line is
+record Said (line : List ℕ) (s : Sample) : Type 0 where
+  a : List ℕ
+  b : List ℕ
+  form : line ≡ 83 ∷ (9 ∷ (a ++ (9 ∷ b)))
+  setpoint : numberOf a ≡ N.Value (s .setpoint)
+  actual : numberOf b ≡ N.Value (s .actual)
+
+said : (line : List ℕ) (s : Sample) → lineOf line ≡ L.Sample s → Said line s
+unfolding lineOf sampleOf
+said line s e =
+    let fs = fields line in
+    let k = by-kind (kindOf (fieldAt 0 fs)) fs s (not-long (ltb 80 (length line)) _ s e) in
+    let m = of-fields (eqb (length fs) 3) _ s (k .1) in
+    let n = two (numberOf (fieldAt 1 fs)) (numberOf (fieldAt 2 fs)) s (m .1) in
+    let p : 9 ∷ line ≡ tabbed (numbered fs 0 3) = parted line ∙ ap tabbed (counted fs 3 (m .0)) in
+    let q : 9 ∷ line ≡ 9 ∷ (83 ∷ (9 ∷ (fieldAt 1 fs ++ (9 ∷ fieldAt 2 fs)))) =
+    p ∙ ap (λ (l : List ℕ). 9 ∷ (l ++ (9 ∷ (fieldAt 1 fs ++ (9 ∷ (fieldAt 2 fs ++ [])))))) (kind-letter (fieldAt 0 fs) (k .0)) ∙ rw (append-nil (fieldAt 2 fs)) in
+    record { a = fieldAt 1 fs; b = fieldAt 2 fs; form = cc; setpoint = n .0; actual = n .1 }
+
+record Ranged (to : ℕ) (l : Line) (row : Row) : Type 0 where
+  sample : Sample
+  says : l ≡ L.Sample sample
+  is : row ≡ record { setpoint = sample .setpoint; actual = sample .actual; to = to }
+  setpoint : powerInRange (sample .setpoint) ≡ true
+  actual : powerInRange (sample .actual) ≡ true
+
+in-range : (to : ℕ) (s : Sample) (row : Row) (b c : Bool) → powerInRange (s .setpoint) ≡ b → powerInRange (s .actual) ≡ c
+    → cond (b && c) (R.Of (record { setpoint = s .setpoint; actual = s .actual; to = to })) R.Other ≡ R.Of row → Ranged to (L.Sample s) row
+in-range to s row true true p q e = record { sample = s; says = refl; is = cc; setpoint = p; actual = q }
+in-range to s row true false p q e = absurd (let z : _≡_ {A = ℕ} 0 1 = cc in (omega arith))
+in-range to s row false c p q e = absurd (let z : _≡_ {A = ℕ} 0 1 = cc in (omega arith))
+
+ranged : (to : ℕ) (l : Line) (row : Row) → rowOf to l ≡ R.Of row → Ranged to l row
+ranged to (L.Sample s) row e = in-range to s row _ _ refl refl e
+ranged to (L.Header h) row e = absurd (let z : _≡_ {A = ℕ} 0 1 = cc in (omega arith))
+ranged to (L.Contract c) row e = absurd (let z : _≡_ {A = ℕ} 0 1 = cc in (omega arith))
+ranged to L.End row e = absurd (let z : _≡_ {A = ℕ} 0 1 = cc in (omega arith))
+ranged to L.Malformed row e = absurd (let z : _≡_ {A = ℕ} 0 1 = cc in (omega arith))
+
+shaped : (s : List ℕ) (at : ℕ) (row : Row) (ls : List (List ℕ)) → linesOf (drop at s) ≡ ls → firstOf at ls ≡ R.Of row → Shape s at row
+unfolding firstOf
+shaped s at row [] q e = absurd (let z : _≡_ {A = ℕ} 0 1 = cc in (omega arith))
+shaped s at row (line ∷ lines) q e =
+    let r = ranged (at + (length line + 1)) (lineOf line) row e in
+    let w = said line (r .sample) (r .says) in
+    let p = split (written (drop at s)) line lines q in
+    let to : row .to ≡ at + (length line + 1) = ap (λ (t : Row). t .to) (r .is) in
+    record {
+      a = w .a;
+      b = w .b;
+      rest = p .rest;
+      form = p .form ∙ ap (λ (l : List ℕ). l ++ (10 ∷ p .rest)) (w .form) ∙ sym (one-line (w .a) (w .b) (p .rest));
+      setpoint = w .setpoint ∙ ap (λ (t : Row). N.Value (t .setpoint)) (sym (r .is));
+      actual = w .actual ∙ ap (λ (t : Row). N.Value (t .actual)) (sym (r .is));
+      setpoint-ranged = ap (λ (t : Row). powerInRange (t .setpoint)) (r .is) ∙ r .setpoint;
+      actual-ranged = ap (λ (t : Row). powerInRange (t .actual)) (r .is) ∙ r .actual;
+      place = omega (arith, line-length (w .a) (w .b) (p .rest), ap length (w .form));
+    }
+
+pub first-shape : (s : List ℕ) (at : ℕ) (row : Row) → firstOf at (linesOf (drop at s)) ≡ R.Of row → Shape s at row
+first-shape s at row e = shaped s at row (linesOf (drop at s)) refl e
+
+pub no-shape : (s : List ℕ) (at : ℕ) → ((row : Row) → Shape s at row → ⊥) → R.Other ≡ firstOf at (linesOf (drop at s))
+no-shape s at never = by-cases (firstOf at (linesOf (drop at s))) refl
+  where
+    by-cases : (f : First) → firstOf at (linesOf (drop at s)) ≡ f → R.Other ≡ firstOf at (linesOf (drop at s))
+    by-cases (R.Of row) e = absurd (never row (first-shape s at row e))
+    by-cases R.Other e = sym e

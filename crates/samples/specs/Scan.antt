@@ -1,0 +1,112 @@
+-- What the private functions say of the bytes that they scan: digits, numbers, a line.
+use Prim.Native.Nat.{ℕ, _+_, _-_, _*_, _≤_, _<_}
+use mathlib.Core.Path.{_≡_}
+use mathlib.Core.Bool.{true, false, cond, _&&_}
+use mathlib.Core.List.{List, [], _∷_, _++_}
+use lib.ListN.{length, getD, drop}
+use lib.Dec.{leb}
+use lib.IntN.{ℤ}
+use Rattle.fields.specs.Numbers.{isDigit, unsignedOf, numberOf}
+use Rattle.fields.specs.declared.number.Digits.the-variants as F
+use Rattle.fields.specs.declared.number.Number.the-variants as N
+use Rattle.lines.specs.Lines.{linesOf}
+use Rattle.reading.specs.Line.{lineOf}
+use Rattle.reading.specs.declared.Line.{Line}
+use Rattle.reading.specs.declared.Line.the-variants as L
+use Rattle.vocabulary.specs.Sample.{powerInRange}
+use Rattle.samples.specs.declared.Digits.{Digits}
+use Rattle.samples.specs.declared.Whole.{Whole}
+use Rattle.samples.specs.declared.Whole.the-variants as W
+use Rattle.samples.specs.declared.Found.{Found}
+use Rattle.samples.specs.declared.Power.{Power}
+use Rattle.samples.specs.declared.Power.the-variants as P
+use Rattle.samples.specs.declared.Row.{Row}
+use Rattle.samples.specs.declared.First.{First}
+use Rattle.samples.specs.declared.First.the-variants as R
+
+-- a place of some bytes, of which the last is an LF
+pub record Ended (s : List ℕ) (at : ℕ) : Type 0 where
+  pub within : at < length s
+  pub ended : getD s (length s - 1) 0 ≡ 10
+
+-- the complete lines of a block end at e: what follows has no LF
+pub record Cut (s : List ℕ) (e : ℕ) : Type 0 where
+  pub within : e ≤ length s
+  pub none : linesOf (drop e s) ≡ []
+  pub ended : 0 < e → getD s (e - 1) 0 ≡ 10
+
+-- the value v with the digits at the front of some bytes, which start at `at`, as long as it may be a power
+unfoldable pub digitsFrom : ℕ → ℕ → List ℕ → Digits
+digitsFrom at v [] = record { value = v; to = at }
+digitsFrom at v (x ∷ xs) =
+    cond (leb v 200000 && isDigit x) (digitsFrom (at + 1) (v * 10 + (x - 48)) xs) (record { value = v; to = at })
+
+pub record Counted (s : List ℕ) (from : ℕ) (r : Digits) : Type 0 where
+  pub is : r ≡ digitsFrom from 0 (drop from s)
+  pub stands : Ended s (r .to)
+
+-- the bytes before `to` are a number of no sign in range
+pub record Spells (s : List ℕ) (from : ℕ) (r : Digits) : Type 0 where
+  pub bytes : List ℕ
+  pub rest : List ℕ
+  pub form : drop from s ≡ bytes ++ rest
+  pub says : unsignedOf 9 bytes ≡ F.Value (r .value)
+  pub small : r .value ≤ 2000000
+  pub place : r .to ≡ from + length bytes
+  pub stands : Ended s (r .to)
+
+-- n stands there, before a byte that is no digit
+pub record Standing (s : List ℕ) (from n : ℕ) : Type 0 where
+  pub bytes : List ℕ
+  pub byte : ℕ
+  pub rest : List ℕ
+  pub form : drop from s ≡ bytes ++ (byte ∷ rest)
+  pub stop : isDigit byte ≡ false
+  pub says : unsignedOf 9 bytes ≡ F.Value n
+  pub small : n ≤ 2000000
+
+-- what is found is such a number, and each that stands there is found
+pub record Unsigned (s : List ℕ) (from : ℕ) (r : Whole) : Type 0 where
+  pub sound : (d : Digits) → r ≡ W.Of d → Spells s from d
+  pub complete : {n : ℕ} (a : Standing s from n) → r ≡ W.Of (record { value = n; to = from + length (a .bytes) })
+
+-- the same under either sign
+pub record Names (s : List ℕ) (from : ℕ) (r : Found) : Type 0 where
+  pub bytes : List ℕ
+  pub rest : List ℕ
+  pub form : drop from s ≡ bytes ++ rest
+  pub says : numberOf bytes ≡ N.Value (r .value)
+  pub ranged : powerInRange (r .value) ≡ true
+  pub place : r .to ≡ from + length bytes
+  pub stands : Ended s (r .to)
+
+pub record Written (s : List ℕ) (from : ℕ) (z : ℤ) : Type 0 where
+  pub bytes : List ℕ
+  pub byte : ℕ
+  pub rest : List ℕ
+  pub form : drop from s ≡ bytes ++ (byte ∷ rest)
+  pub stop : isDigit byte ≡ false
+  pub says : numberOf bytes ≡ N.Value z
+  pub ranged : powerInRange z ≡ true
+
+pub record Powered (s : List ℕ) (from : ℕ) (r : Power) : Type 0 where
+  pub sound : (f : Found) → r ≡ P.Of f → Names s from f
+  pub complete : {z : ℤ} (a : Written s from z) → r ≡ P.Of (record { value = z; to = from + length (a .bytes) })
+
+-- a line that ends before `to`
+abbrev pub rowOf : ℕ → Line → First
+rowOf to (L.Sample s) =
+    cond (powerInRange (s .setpoint) && powerInRange (s .actual)) (R.Of (record { setpoint = s .setpoint; actual = s .actual; to = to })) R.Other
+rowOf to (L.Header h) = R.Other
+rowOf to (L.Contract c) = R.Other
+rowOf to L.End = R.Other
+rowOf to L.Malformed = R.Other
+
+-- the first of some lines, which start at `at`
+unfoldable pub firstOf : ℕ → List (List ℕ) → First
+firstOf at [] = R.Other
+firstOf at (line ∷ lines) = rowOf (at + (length line + 1)) (lineOf line)
+
+pub record Began (s : List ℕ) (at : ℕ) (r : First) : Type 0 where
+  pub is : r ≡ firstOf at (linesOf (drop at s))
+  pub within : (row : Row) → r ≡ R.Of row → row .to ≤ length s
