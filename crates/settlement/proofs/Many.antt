@@ -78,7 +78,8 @@ many-from : (run : Run) (tape : Tape) (ss : List Sample)
     → manyOf (withTape run tape) ss ≡ record { run = withTape run (recorded-in run tape ss .tape); refusal = recorded-in run tape ss .refusal }
 unfolding manyOf recordedOf sampledOf sampleGround sampled recorded-in
 many-from run tape [] = refl
-many-from run tape (s ∷ ss) = go (sampleRefusal (samplesOf (run .past)) (tape .filled) (run .account .taken) (run .plan .quarters) (s .setpoint) (s .actual)) (many-from run (longer tape (s .setpoint) (s .actual)) ss)
+many-from run tape (s ∷ ss) = go
+    (sampleRefusal (samplesOf (run .past)) (tape .filled) (run .account .taken) (run .plan .quarters) (s .setpoint) (s .actual)) (many-from run (longer tape (s .setpoint) (s .actual)) ss)
   where
     next : Run
     next = withTape run (longer tape (s .setpoint) (s .actual))

@@ -97,7 +97,9 @@ module _ (gaps : List ℕ) (k : ℕ) (m f : ℕ) where
   floor-nothing = sym (floors-at m f [] 0)
 
   missing-zeros : missingOf m f (gaps ++ zeros k) ≡ missingOf m f gaps
-  missing-zeros = ap (λ (s : ℕ). m - s) (ap sumOf (each-join (shareFloor m f) gaps (zeros k) ∙ ap (λ (l : List ℕ). floorsOf m f gaps ++ l) (each-blank (shareFloor m f) 0 32 k ∙ ap (λ (z : ℕ). drop k (replicate 32 z)) floor-nothing)) ∙ sum-padded (floorsOf m f gaps) k)
+  missing-zeros = ap (λ (s : ℕ). m - s)
+      (ap sumOf (each-join (shareFloor m f) gaps (zeros k)
+      ∙ ap (λ (l : List ℕ). floorsOf m f gaps ++ l) (each-blank (shareFloor m f) 0 32 k ∙ ap (λ (z : ℕ). drop k (replicate 32 z)) floor-nothing)) ∙ sum-padded (floorsOf m f gaps) k)
 
   extras-zeros : extrasOf m f (gaps ++ zeros k) ≡ extrasOf m f gaps
   extras-zeros = rw (missing-zeros) (marks-same (missingOf m f gaps) (remaindersOf m f (gaps ++ zeros k)) (remaindersOf m f gaps) rests-zeros)
@@ -123,7 +125,8 @@ pub shares-zeros : (surplus : ℕ) (gaps : List ℕ) (k i : ℕ) → i < length 
 unfolding sharesOf handedOut
 shares-zeros surplus gaps k i h = rw (sum-padded gaps k) (go (eqb (sumOf gaps) 0))
   where
-    go : (t : Bool) → getD (cond t (each noShare (gaps ++ zeros k)) (partedOf (leastOf surplus (sumOf gaps)) (sumOf gaps) (gaps ++ zeros k))) i 0 ≡ getD (cond t (each noShare gaps) (partedOf (leastOf surplus (sumOf gaps)) (sumOf gaps) gaps)) i 0
+    go : (t : Bool) → getD (cond t (each noShare (gaps ++ zeros k)) (partedOf (leastOf surplus (sumOf gaps)) (sumOf gaps) (gaps ++ zeros k))) i 0
+        ≡ getD (cond t (each noShare gaps) (partedOf (leastOf surplus (sumOf gaps)) (sumOf gaps) gaps)) i 0
     go true = no-shares (gaps ++ zeros k) i ∙ sym (no-shares gaps i)
     go false = parted-zeros gaps k (leastOf surplus (sumOf gaps)) (sumOf gaps) i h
 
@@ -153,7 +156,8 @@ module _ (surplus : ℕ) (gaps : List ℕ) (few : length gaps ≤ 32) where
   shares-parts : sharesOf surplus padded ≡ sharesOf surplus gaps ++ zeros (length gaps)
   shares-parts =
       let n : length (sharesOf surplus padded) ≡ 32 = shares-length surplus padded ∙ padded-32 in
-      let m : length (sharesOf surplus gaps ++ zeros (length gaps)) ≡ 32 = length-append (sharesOf surplus gaps) (zeros (length gaps)) ∙ rw (shares-length surplus gaps, ← length-append gaps (zeros (length gaps))) padded-32 in
+      let m : length (sharesOf surplus gaps ++ zeros (length gaps)) ≡ 32 = length-append (sharesOf surplus gaps) (zeros (length gaps))
+      ∙ rw (shares-length surplus gaps, ← length-append gaps (zeros (length gaps))) padded-32 in
       ext-getD 0 (sharesOf surplus padded) (sharesOf surplus gaps ++ zeros (length gaps)) (n ∙ sym m) (λ k h. share-at k (omega arith))
 
   fair-in-places : FairShares surplus (gaps ++ zeros (length gaps)) (sharesOf surplus gaps ++ zeros (length gaps))
@@ -185,6 +189,7 @@ module _ (surplus : ℕ) (gaps : List ℕ) (few : length gaps ≤ 32) where
         floor = λ k h. omega (arith, f .floor k (longer h), floor-same k, share-same k);
         one-more = λ k h. omega (arith, f .one-more k (longer h), floor-same k, share-same k);
         in-gap = λ k h. omega (arith, f .in-gap k (longer h), past-end gaps (length gaps) k, share-same k);
-        largest = λ k j h b t z. omega (arith, f .largest k j (longer h) (longer b) (omega (arith, floor-same k, share-same k)) (omega (arith, floor-same j, share-same j)), remainder-same k, remainder-same j);
+        largest = λ k j h b t z. omega
+            (arith, f .largest k j (longer h) (longer b) (omega (arith, floor-same k, share-same k)) (omega (arith, floor-same j, share-same j)), remainder-same k, remainder-same j);
         earlier = λ k j h b t z. omega (arith, f .earlier k j (longer h) b (omega (arith, floor-same k, share-same k)) (omega (arith, floor-same j, share-same j)), remainder-same k, remainder-same j);
       }

@@ -35,7 +35,8 @@ unfolding tabbed
 field most {x = x} p q h = record { text = rw (append-nil x) (tabbed-one {most = most} (join p q) h) }
 
 -- further fields
-pub further : {m n : ℕ} {d d′ d″ : List ℕ} {at r r′ : ℕ} {letter : List ℕ} {xs ys : List (List ℕ)} → FieldsUpTo m d at letter xs r d′ → FieldsUpTo n d′ r [] ys r′ d″ → FieldsUpTo (m + n) d at letter (xs ++ ys) r′ d″
+pub further : {m n : ℕ} {d d′ d″ : List ℕ} {at r r′ : ℕ} {letter : List ℕ} {xs ys : List (List ℕ)} → FieldsUpTo m d at letter xs r d′
+    → FieldsUpTo n d′ r [] ys r′ d″ → FieldsUpTo (m + n) d at letter (xs ++ ys) r′ d″
 further {letter = letter} {xs = xs} {ys = ys} p q =
     record { text = rw (tabbed-append xs ys, ← append-assoc letter (tabbed xs) (tabbed ys)) (both (p .text) (q .text)) }
 
@@ -54,13 +55,17 @@ pub no-numbers : {d : List ℕ} {at : ℕ} → at ≤ last → length d ≤ last
 unfolding tabbed
 no-numbers h l = record { text = nothing h l }
 
-pub number-more : {d d′ d″ : List ℕ} {at e e′ : ℕ} (numbers : List ℕ) (i : ℕ) → i < length numbers → FieldsUpTo (21 * i) d at [] (map digits (take i numbers)) e d′ → FieldsUpTo 21 d′ e [] (digits (getD numbers i 0) ∷ []) e′ d″ → FieldsUpTo (21 * (i + 1)) d at [] (map digits (take (i + 1) numbers)) e′ d″
+pub number-more : {d d′ d″ : List ℕ} {at e e′ : ℕ} (numbers : List ℕ) (i : ℕ) → i < length numbers
+    → FieldsUpTo (21 * i) d at [] (map digits (take i numbers)) e d′ → FieldsUpTo 21 d′ e [] (digits (getD numbers i 0) ∷ []) e′ d″
+    → FieldsUpTo (21 * (i + 1)) d at [] (map digits (take (i + 1) numbers)) e′ d″
 number-more numbers i h p q =
-    let e : map digits (take (i + 1) numbers) ≡ map digits (take i numbers) ++ (digits (getD numbers i 0) ∷ []) = rw (add-one i, take-suc numbers i 0 h) (map-append digits (take i numbers) (getD numbers i 0 ∷ [])) in
+    let e : map digits (take (i + 1) numbers) ≡ map digits (take i numbers) ++ (digits (getD numbers i 0) ∷ []) =
+    rw (add-one i, take-suc numbers i 0 h) (map-append digits (take i numbers) (getD numbers i 0 ∷ [])) in
     let m : 21 * (i + 1) ≡ 21 * i + 21 = omega arith in
     rw (e, m) (further p q)
 
-pub numbers-all : {d d′ : List ℕ} {at r : ℕ} (numbers : List ℕ) (i : ℕ) → i ≤ length numbers → length numbers ≤ i → FieldsUpTo (21 * i) d at [] (map digits (take i numbers)) r d′ → FieldsUpTo (21 * length numbers) d at [] (map digits numbers) r d′
+pub numbers-all : {d d′ : List ℕ} {at r : ℕ} (numbers : List ℕ) (i : ℕ) → i ≤ length numbers → length numbers ≤ i
+    → FieldsUpTo (21 * i) d at [] (map digits (take i numbers)) r d′ → FieldsUpTo (21 * length numbers) d at [] (map digits numbers) r d′
 numbers-all numbers i h l p =
     let n : i ≡ length numbers = omega arith in
     let e : take i numbers ≡ numbers = take-all i numbers l in

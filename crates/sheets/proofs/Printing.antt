@@ -18,14 +18,16 @@ length-known : {most n : ℕ} {z z′ text : List ℕ} → WroteUpTo most z 0 te
 length-known p h = measured (p .wrote) (omega arith)
 
 -- shorter than the measure: no byte is changed
-pub refused : {most n : ℕ} {z z′ d text : List ℕ} (room : ℕ) → WroteUpTo most z 0 text n z′ → most ≤ room → room ≤ last → length d < n → (TooShort ≡ printAnswer d text) × ((d ≡ printInto d text) × (length text ≤ room))
+pub refused : {most n : ℕ} {z z′ d text : List ℕ} (room : ℕ) → WroteUpTo most z 0 text n z′ → most ≤ room → room ≤ last → length d < n
+    → (TooShort ≡ printAnswer d text) × ((d ≡ printInto d text) × (length text ≤ room))
 refused {n = n} {d = d} {text = text} room p h k s =
     let l : n ≡ length text = length-known p (omega arith) in
     let e : leb (length text) (length d) ≡ false = lt-leb (length text) (length d) (omega arith) in
     (rw e, (rw e, omega arith))
 
 -- long enough: the text, its length, and the rest as it was
-pub written : {most n r : ℕ} {z z′ d d′ text : List ℕ} (room : ℕ) → WroteUpTo most z 0 text n z′ → most ≤ room → room ≤ last → n ≤ length d → WroteUpTo most d 0 text r d′ → (Length r ≡ printAnswer d text) × ((d′ ≡ printInto d text) × (length text ≤ room))
+pub written : {most n r : ℕ} {z z′ d d′ text : List ℕ} (room : ℕ) → WroteUpTo most z 0 text n z′ → most ≤ room → room ≤ last → n ≤ length d
+    → WroteUpTo most d 0 text r d′ → (Length r ≡ printAnswer d text) × ((d′ ≡ printInto d text) × (length text ≤ room))
 written {n = n} {d = d} {text = text} room p h k s w =
     let l : n ≡ length text = length-known p (omega arith) in
     let e : leb (length text) (length d) ≡ true = le-leb (length text) (length d) (omega arith) in

@@ -21,7 +21,8 @@ ghost use lib.ListN.{length};
 ghost use Rattle.sheets.specs.Buffer.{bufferLength, printAnswer, printInto};
 ghost use Rattle.settlement.specs.Many.{samplesIn};
 ghost use Rattle.reading.specs.Line.{lineOf};
-ghost use Rattle.text.specs.Desk.{Tells, emptyDesk, goesOn, answerOf, refusedTurn, openTurn, contractTurn, takenText, quarterTurn, sampleTurn, samplesTurn, roomAt, endTurn, firstTurn, nextTurn, lineTurn, finishTurn, closedAt};
+ghost use Rattle.text.specs.Desk.{Tells, emptyDesk, goesOn, answerOf, refusedTurn, openTurn, contractTurn, takenText, quarterTurn, sampleTurn};
+ghost use Rattle.text.specs.Desk.{samplesTurn, roomAt, endTurn, firstTurn, nextTurn, lineTurn, finishTurn, closedAt};
 
 // Before the header; while the run is open; after the end or a refusal, when nothing is read any more.
 pub enum Stage {

@@ -4,7 +4,9 @@ use mathlib.Core.Path.{_≡_, refl}
 use mathlib.Core.Bool.{true, false}
 use Rattle.arithmetic.proofs.Booleans.{true-false}
 use Rattle.vocabulary.specs.declared.refusal.Refusal.{Refusal}
-use Rattle.vocabulary.specs.declared.refusal.Refusal.the-variants.{None, WrongMoment, BadInterval, BadLot, BadDate, BadQuarters, TooManyContracts, BadIdentifier, IdentifierTaken, BadAward, AwardsTooHigh, BadPrice, PriceTooLow, BadPower, BadLine, NoEnd, BufferTooShort}
+use Rattle.vocabulary.specs.declared.refusal.Refusal.the-variants.{None, WrongMoment, BadInterval, BadLot, BadDate, BadQuarters}
+use Rattle.vocabulary.specs.declared.refusal.Refusal.the-variants.{TooManyContracts, BadIdentifier, IdentifierTaken, BadAward, AwardsTooHigh}
+use Rattle.vocabulary.specs.declared.refusal.Refusal.the-variants.{BadPrice, PriceTooLow, BadPower, BadLine, NoEnd, BufferTooShort}
 use Rattle.vocabulary.specs.Refusals.{accepted}
 
 pub data Answer (r : Refusal) : Type 0 where

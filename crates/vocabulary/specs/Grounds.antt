@@ -5,7 +5,9 @@ use mathlib.Core.Bool.{Bool, true, false, cond, _&&_}
 use mathlib.Core.List.{List, [], _∷_}
 use lib.Dec.{eqb, leb}
 use Rattle.vocabulary.specs.declared.refusal.Refusal.{Refusal}
-use Rattle.vocabulary.specs.declared.refusal.Refusal.the-variants.{None, WrongMoment, BadInterval, BadLot, BadDate, BadQuarters, TooManyContracts, BadIdentifier, IdentifierTaken, BadAward, AwardsTooHigh, BadPrice, PriceTooLow, BadPower, BadLine, NoEnd, BufferTooShort}
+use Rattle.vocabulary.specs.declared.refusal.Refusal.the-variants.{None, WrongMoment, BadInterval, BadLot, BadDate, BadQuarters}
+use Rattle.vocabulary.specs.declared.refusal.Refusal.the-variants.{TooManyContracts, BadIdentifier, IdentifierTaken, BadAward, AwardsTooHigh}
+use Rattle.vocabulary.specs.declared.refusal.Refusal.the-variants.{BadPrice, PriceTooLow, BadPower, BadLine, NoEnd, BufferTooShort}
 use Rattle.vocabulary.specs.Refusals.{numberOf}
 
 -- THE LISTING. A refusal's rank is its place here, not its number

@@ -110,7 +110,9 @@ put-count-returns-2 : (t : ℕ) → put-count-lts.Need-returns-2 (
   put-count.Post,
 ) (put-count-at t) put-count.Post
 put-count-returns-2 t c =
-    rw (digits-more (c .before .before .before .before .before .before .before .before .before .before .args .n) (c .before .before .before .before .before .before .before .before .if1 .left)) (join (c .before .before .before .before .before .before .put-count .ensures) (c .before .before .put2 .ensures))
+    rw (digits-more (c .before .before .before .before .before .before .before .before .before .before .args .n)
+    (c .before .before .before .before .before .before .before .before .if1 .left))
+    (join (c .before .before .before .before .before .before .put-count .ensures) (c .before .before .put2 .ensures))
 
 pub +put-count-spec : {M : Type 1} → statement M
 +put-count-spec = close μ-put-count λ t. put-count-lts.spec (

@@ -33,7 +33,11 @@ loop-less : tie.Need-loop-less Inv-loop μ-loop
 loop-less c = omega arith
 
 loop-again : tie.Need-loop-again Inv-loop μ-loop
-loop-again c = (omega arith, rw (add-one, take-suc {A = ℕ} _ _ 0 (c .before .before .before .before .before .loop-test .taken)) (join (c .before .before .before .before .before .before .loop .inv .1) (c .before .before .put .ensures)))
+loop-again c = (
+  omega arith,
+  rw (add-one, take-suc {A = ℕ} _ _ 0 (c .before .before .before .before .before .loop-test .taken))
+      (join (c .before .before .before .before .before .before .loop .inv .1) (c .before .before .put .ensures)),
+)
 
 same-length : tie.Need-same-length Inv-loop μ-loop
 same-length c = wrote-length (c .before .loop .inv .1)

@@ -20,7 +20,11 @@ same-length c = search needs
 
 returns : tie.Need-returns
 unfolding dateText
-returns c = join (join (c .before .before .before .before .before .before .before .before .before .before .put-four .ensures) (c .before .before .before .before .before .before .put-part .ensures)) (c .before .before .put-part2 .ensures)
+returns c =
+    let at-put-part = c .before .before .before .before .before .before in
+    let at-put-four = at-put-part .before .before .before .before in
+    join (join (at-put-four .put-four .ensures)
+    (at-put-part .put-part .ensures)) (c .before .before .put-part2 .ensures)
 
 pub put-date-spec : {M : Type 1} → statement M
 put-date-spec =

@@ -23,8 +23,20 @@ same-length c = search needs
 
 returns : tie.Need-returns
 returns c =
-    let e : c .before .before .before .magnitude .result ≡ natAbs (c .before .before .before .before .before .before .before .before .before .before .before .args .n) = rw (toZ-ofZ (c .before .before .before .before .before .before .before .before .before .before .before .fits .n)) at (c .before .before .before .magnitude .ensures) in
-    rw (text-negative (c .before .before .before .before .before .before .before .before .before .before .before .args .n) (rw (toZ-ofZ (c .before .before .before .before .before .before .before .before .before .before .before .fits .n)) at (c .before .before .before .before .before .before .before .before .before .if1 .taken)), ← e) (join (c .before .before .before .before .before .before .before .put .ensures) (c .before .before .put-count .ensures))
+    let at-magnitude = c .before .before .before in
+    let at-put = at-magnitude .before .before .before .before in
+    let at-if1 = at-put .before .before in
+    let at-start = at-if1 .before .before in
+    let e : at-magnitude .magnitude .result
+    ≡ natAbs (at-start .args .n) =
+    rw (toZ-ofZ (at-start .fits .n)) at (at-magnitude .magnitude .ensures) in
+    rw (
+      text-negative (at-start .args .n)
+          (rw (toZ-ofZ (at-start .fits .n)) at
+          (at-if1 .if1 .taken)),
+      ← e,
+    )
+    (join (at-put .put .ensures) (c .before .before .put-count .ensures))
 
 magnitude-requires-2 : tie.Need-magnitude-requires-2
 magnitude-requires-2 c κs = search needs
@@ -37,8 +49,16 @@ same-length-2 c = search needs
 
 returns-2 : tie.Need-returns-2
 returns-2 c =
-    let e : c .before .before .before .magnitude2 .result ≡ natAbs (c .before .before .before .before .before .before .before .args .n) = rw (toZ-ofZ (c .before .before .before .before .before .before .before .fits .n)) at (c .before .before .before .magnitude2 .ensures) in
-    rw (text-plain (c .before .before .before .before .before .before .before .args .n) (rw (toZ-ofZ (c .before .before .before .before .before .before .before .fits .n)) at (c .before .before .before .before .before .if1 .left)), ← e) (c .before .before .put-count2 .ensures)
+    let at-magnitude2 = c .before .before .before in
+    let at-if1 = at-magnitude2 .before .before in
+    let at-start = at-if1 .before .before in
+    let e : at-magnitude2 .magnitude2 .result ≡ natAbs (at-start .args .n) =
+    rw (toZ-ofZ (at-start .fits .n)) at (at-magnitude2 .magnitude2 .ensures) in
+    rw (
+      text-plain (at-start .args .n)
+          (rw (toZ-ofZ (at-start .fits .n)) at (at-if1 .if1 .left)),
+      ← e,
+    ) (c .before .before .put-count2 .ensures)
 
 pub put-number-spec : {M : Type 1} → statement M
 put-number-spec =

@@ -27,8 +27,10 @@ cast-t9 c = value-fits ((rw (c .before .before .read .given .1) at (c .before .b
 
 returns-2 : tie.Need-returns-2
 returns-2 c =
-    let u = rw (c .before .before .read .given .1) at (c .before .before .before .before .unsigned-at .ensures) in
-    plain-some (c .before .before .before .before .before .if1 .taken) (value-is (u .sound _ refl .small)) u
+    let at-unsigned-at = c .before .before .before .before in
+    let at-if1 = at-unsigned-at .before in
+    let u = rw (c .before .before .read .given .1) at (at-unsigned-at .unsigned-at .ensures) in
+    plain-some (at-if1 .if1 .taken) (value-is (u .sound _ refl .small)) u
 
 add-unsigned-at : tie.Need-add-unsigned-at
 add-unsigned-at c = search needs
@@ -64,7 +66,10 @@ cast-t13 c =
     value-fits ((rw (at-read .read2 .given .1) at (at-unsigned-at .unsigned-at2 .ensures)) .sound _ refl .small)
 
 sub-t14 : tie.Need-sub-t14
-sub-t14 c = less-fits ((rw (c .before .before .before .before .read2 .given .1) at (c .before .before .before .before .before .before .unsigned-at2 .ensures)) .sound _ refl .small)
+sub-t14 c =
+    let at-read2 = c .before .before .before .before in
+    let at-unsigned-at2 = at-read2 .before .before in
+    less-fits ((rw (at-read2 .read2 .given .1) at (at-unsigned-at2 .unsigned-at2 .ensures)) .sound _ refl .small)
 
 returns-5 : tie.Need-returns-5
 returns-5 c =

@@ -43,33 +43,84 @@ feed-requires : tie.Need-feed-requires Inv-loop μ-loop
 feed-requires c κs = search needs
 
 add-i : tie.Need-add-i Inv-loop μ-loop
-add-i c = let inv = c .before .before .before .before .before .before .before .before .before .before .loop .inv in
-    let enough : bufferLength ≤ length (c .before .before .before .before .before .before .before .before .before .before .loop .out) = omega (arith, inv .1, inv .2) in
-    omega (arith, called {block = c .before .before .before .before .before .before .before .before .before .before .before .before .before .args .block .now} {i = c .before .before .before .before .before .before .before .before .before .before .loop .i} enough (c .before .before .before .before .before .before .before .before .before .loop-test .taken) (c .before .before .before .before .feed .ensures) .within, c .before .before .before .before .before .before .before .before .before .before .before .before .before .good)
+add-i c =
+    let at-feed = c .before .before .before .before in
+    let at-loop-test = at-feed .before .before .before .before .before in
+    let at-loop = at-loop-test .before in
+    let at-start = at-loop .before .before .before in
+    let inv = at-loop .loop .inv in
+    let enough : bufferLength ≤ length (at-loop .loop .out) = omega (arith, inv .1, inv .2) in
+    omega (
+      arith,
+      called {block = at-start .args .block .now}
+          {i = at-loop .loop .i} enough
+          (at-loop-test .loop-test .taken)
+          (at-feed .feed .ensures) .within,
+      at-start .good,
+    )
 
 written-requires : tie.Need-written-requires Inv-loop μ-loop
-written-requires c κs = let inv = c .before .before .before .before .before .before .before .before .before .before .before .loop .inv in
-    let enough : bufferLength ≤ length (c .before .before .before .before .before .before .before .before .before .before .before .loop .out) = omega (arith, inv .1, inv .2) in
-    called {block = c .before .before .before .before .before .before .before .before .before .before .before .before .before .before .args .block .now} {i = c .before .before .before .before .before .before .before .before .before .before .before .loop .i} enough (c .before .before .before .before .before .before .before .before .before .before .loop-test .taken) (c .before .before .before .before .before .feed .ensures) .room
+written-requires c κs =
+    let at-feed = c .before .before .before .before .before in
+    let at-loop-test = at-feed .before .before .before .before .before in
+    let at-loop = at-loop-test .before in
+    let at-start = at-loop .before .before .before in
+    let inv = at-loop .loop .inv in
+    let enough : bufferLength ≤ length (at-loop .loop .out) = omega (arith, inv .1, inv .2) in
+    called {block = at-start .args .block .now}
+    {i = at-loop .loop .i} enough
+    (at-loop-test .loop-test .taken) (at-feed .feed .ensures) .room
 
 same-length-2 : tie.Need-same-length-2 Inv-loop μ-loop
-same-length-2 c = let inv = c .before .before .before .before .before .before .before .before .before .before .before .before .before .loop .inv in
-    let enough : bufferLength ≤ length (c .before .before .before .before .before .before .before .before .before .before .before .before .before .loop .out) = omega (arith, inv .1, inv .2) in
-    called {block = c .before .before .before .before .before .before .before .before .before .before .before .before .before .before .before .before .args .block .now} {i = c .before .before .before .before .before .before .before .before .before .before .before .before .before .loop .i} enough (c .before .before .before .before .before .before .before .before .before .before .before .before .loop-test .taken) (c .before .before .before .before .before .before .before .feed .ensures) .length-is ∙ inv .2
+same-length-2 c =
+    let at-feed = c .before .before .before .before .before .before .before in
+    let at-loop-test = at-feed .before .before .before .before .before in
+    let at-loop = at-loop-test .before in
+    let at-start = at-loop .before .before .before in
+    let inv = at-loop .loop .inv in
+    let enough : bufferLength ≤ length (at-loop .loop .out) = omega (arith, inv .1, inv .2) in
+    called {block = at-start .args .block .now}
+    {i = at-loop .loop .i} enough
+    (at-loop-test .loop-test .taken)
+    (at-feed .feed .ensures) .length-is ∙ inv .2
 
 returns-2 : tie.Need-returns-2 Inv-loop μ-loop
 returns-2 c = λ e. absurd (let z : _≡_ {A = ℕ} 0 1 = cc in (omega arith))
 
 loop-less : tie.Need-loop-less Inv-loop μ-loop
-loop-less c = let inv = c .before .before .before .before .before .before .before .before .before .before .before .before .before .loop .inv in
-    let enough : bufferLength ≤ length (c .before .before .before .before .before .before .before .before .before .before .before .before .before .loop .out) = omega (arith, inv .1, inv .2) in
-    let step = called {block = c .before .before .before .before .before .before .before .before .before .before .before .before .before .before .before .before .args .block .now} {i = c .before .before .before .before .before .before .before .before .before .before .before .before .before .loop .i} enough (c .before .before .before .before .before .before .before .before .before .before .before .before .loop-test .taken) (c .before .before .before .before .before .before .before .feed .ensures) in
-    omega (arith, step .within, step .some (sym (c .before .before .before .before .before .before .before .before .before .before .before .is-closed .ensures) ∙ c .before .before .before .before .before .before .before .before .before .before .if1 .left))
+loop-less c =
+    let at-feed = c .before .before .before .before .before .before .before in
+    let at-if1 = at-feed .before .before .before in
+    let at-is-closed = at-if1 .before in
+    let at-loop-test = at-is-closed .before in
+    let at-loop = at-loop-test .before in
+    let at-start = at-loop .before .before .before in
+    let inv = at-loop .loop .inv in
+    let enough : bufferLength ≤ length (at-loop .loop .out) = omega (arith, inv .1, inv .2) in
+    let step = called {block = at-start .args .block .now}
+    {i = at-loop .loop .i} enough
+    (at-loop-test .loop-test .taken)
+    (at-feed .feed .ensures) in
+    omega (
+      arith,
+      step .within,
+      step .some
+          (sym (at-is-closed .is-closed .ensures)
+          ∙ at-if1 .if1 .left),
+    )
 
 loop-again : tie.Need-loop-again Inv-loop μ-loop
-loop-again c = let inv = c .before .before .before .before .before .before .before .before .before .before .before .before .before .loop .inv in
-    let enough : bufferLength ≤ length (c .before .before .before .before .before .before .before .before .before .before .before .before .before .loop .out) = omega (arith, inv .1, inv .2) in
-    let step = called {block = c .before .before .before .before .before .before .before .before .before .before .before .before .before .before .before .before .args .block .now} {i = c .before .before .before .before .before .before .before .before .before .before .before .before .before .loop .i} enough (c .before .before .before .before .before .before .before .before .before .before .before .before .loop-test .taken) (c .before .before .before .before .before .before .before .feed .ensures) in
+loop-again c =
+    let at-feed = c .before .before .before .before .before .before .before in
+    let at-loop-test = at-feed .before .before .before .before .before in
+    let at-loop = at-loop-test .before in
+    let at-start = at-loop .before .before .before in
+    let inv = at-loop .loop .inv in
+    let enough : bufferLength ≤ length (at-loop .loop .out) = omega (arith, inv .1, inv .2) in
+    let step = called {block = at-start .args .block .now}
+    {i = at-loop .loop .i} enough
+    (at-loop-test .loop-test .taken)
+    (at-feed .feed .ensures) in
     (step .within, inv .1, step .length-is ∙ inv .2, λ last t. inv .3 last (step .on t))
 
 same-length-3 : tie.Need-same-length-3 Inv-loop μ-loop

@@ -19,7 +19,11 @@ returns : tie.Need-returns
 returns c = search needs
 
 slice-aggregate-write-all : tie.Need-slice-aggregate-write-all
-slice-aggregate-write-all c = sym (length-take-le _ _ (subst (λ (p : Printed). lengthOf p ≤ length (c .before .before .before .before .before .args .out .now)) (c .before .before .printed .given .1) (c .before .before .before .before .before .pre)))
+slice-aggregate-write-all c =
+    let at-start = c .before .before .before .before .before in
+    sym
+    (length-take-le _ _ (subst (λ (p : Printed). lengthOf p ≤ length (at-start .args .out .now))
+    (c .before .before .printed .given .1) (at-start .pre)))
 
 write-all-requires : tie.Need-write-all-requires
 write-all-requires c κs = search needs

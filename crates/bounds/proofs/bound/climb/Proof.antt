@@ -56,7 +56,8 @@ factors : (c : tie.After-struct-known) → toZ w64 (ofZ w64 (c .before .before .
 factors c =
     rw (back {z = c .before .before .larger .result} (c .before .before .larger .ok), toZ-pos w64 (20 * c .before .windows .result .seconds) (omega (arith, short c)), steepest (c .before .before))
 
-fit : (c : tie.After-struct-known) → SFits w64 (maxZ (pos (c .before .before .before .args .lot)) (c .before .before .before .args .most -ℤ c .before .before .before .args .least) *ℤ pos (20 * c .before .windows .result .seconds))
+fit : (c : tie.After-struct-known)
+    → SFits w64 (maxZ (pos (c .before .before .before .args .lot)) (c .before .before .before .args .most -ℤ c .before .before .before .args .least) *ℤ pos (20 * c .before .windows .result .seconds))
 fit c =
     let a = c .before .before .before in
     gradient-fits (a .args .lot) (c .before .windows .result .seconds) (a .args .most -ℤ a .args .least) (omega arith) (short c) (spread-within (a .fits .most) (a .fits .least) .0)

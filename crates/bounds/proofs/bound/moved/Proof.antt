@@ -46,7 +46,15 @@ returns-2 : tie.Need-returns-2
 returns-2 c =
     let a = c .before .before .before .before in
     let i = c .before .inward in
-    rw (back (c .farther2 .ok), c .farther2 .ensures, back {z = i .result} (i .ok), i .ensures, toZ-ofZ w64 (a .args .near) (a .fits .near), toZ-ofZ w64 (a .args .held) (a .fits .held), toZ-ofZ w64 (a .args .gradient) (a .fits .gradient))
+    rw (
+      back (c .farther2 .ok),
+      c .farther2 .ensures,
+      back {z = i .result} (i .ok),
+      i .ensures,
+      toZ-ofZ w64 (a .args .near) (a .fits .near),
+      toZ-ofZ w64 (a .args .held) (a .fits .held),
+      toZ-ofZ w64 (a .args .gradient) (a .fits .gradient),
+    )
 
 pub moved-spec : {M : Type 1} → statement M
 moved-spec =

@@ -18,17 +18,22 @@ onward-requires-2 c κs = search needs
 returns : tie.Need-returns
 unfolding nextOf
 returns c =
-    let a = c .before .before .before .before .before .before .before .before .before .before .before .args in
-    let seen = c .before .before .before .before .before .before .before .before .before .before .struct-told .given in
+    let at-onward = c .before .before .before in
+    let at-struct-told4 = at-onward .before in
+    let at-climb = at-struct-told4 .before .before .before .before in
+    let at-struct-told = at-climb .before .before in
+    let at-start = at-struct-told .before in
+    let a = at-start .args in
+    let seen = at-struct-told .struct-told .given in
     let high = back32 {z = a .seen .highest} (seen .0 .1) in
     let low = back32 {z = a .seen .lowest} (seen .1 .0 .1) in
     let most = back32 {z = a .seen .most} (seen .1 .1 .0 .1) in
     let least = back32 {z = a .seen .least} (seen .1 .1 .1 .0 .1) in
-    let oga = back {z = a .held .oga .0} (c .before .before .before .before .struct-told4 .given .0 .1) in
+    let oga = back {z = a .held .oga .0} (at-struct-told4 .struct-told4 .given .0 .1) in
     let uga = back {z = a .held .uga .0} (c .before .struct-told6 .given .0 .1) in
-    let o = c .before .before .before .onward in
+    let o = at-onward .onward in
     let u = c .onward2 in
-    let g = c .before .before .before .before .before .before .before .before .climb in
+    let g = at-climb .climb in
     rw (back {z = o .result} (o .ok), back {z = u .result} (u .ok), o .ensures, u .ensures)
     (rw (back {z = g .result} (g .ok), g .ensures .0, high, low, most, least, oga, uga))
 

@@ -31,13 +31,17 @@ bounded-requires c κs = omega (arith, c .before .before .before .before .least 
 
 returns : tie.Need-returns
 returns c =
-    let line = c .before .before .before .before .before .before .args .line in
-    rw (← c .before .before .before .before .before .least .ensures)
+    let at-spreads = c .before .before .before in
+    let at-nears = at-spreads .before in
+    let at-least = at-nears .before in
+    let at-start = at-least .before in
+    let line = at-start .args .line in
+    rw (← at-least .least .ensures)
     (c .bounded .ensures line
     (record {
-      near-upper = c .before .before .before .before .nears .ensures .1;
+      near-upper = at-nears .nears .ensures .1;
       near-lower = c .before .before .nears2 .ensures .1;
-      spread-upper = c .before .before .before .spreads .ensures line (c .before .before .before .before .nears .ensures .0);
+      spread-upper = at-spreads .spreads .ensures line (at-nears .nears .ensures .0);
       spread-lower = c .before .spreads2 .ensures line (c .before .before .nears2 .ensures .0);
     }))
 

@@ -20,7 +20,10 @@ same-length : tie.Need-same-length
 same-length c = search needs
 
 returns-2 : tie.Need-returns-2
-returns-2 c = fed-whole (c .before .before .before .before .before .before .before .before .before .if1 .left) (c .before .before .before .before .before .read-on .ensures)
+returns-2 c =
+    let at-read-on = c .before .before .before .before .before in
+    let at-if1 = at-read-on .before .before .before .before in
+    fed-whole (at-if1 .if1 .left) (at-read-on .read-on .ensures)
 
 pub feed-spec : {M : Type 1} → statement M
 feed-spec =

@@ -36,17 +36,26 @@ returns : tie.Need-returns Inv-loop μ-loop
 returns c = so-closed _ _ _ _ _ (c .before .before .before .loop .inv .2) (c .before .before .before .loop .inv .3) (sym (c .before .is-closed .ensures) ∙ c .if1 .taken)
 
 step-requires : tie.Need-step-requires Inv-loop μ-loop
-step-requires c κs = let inv = c .before .before .before .before .before .before .loop .inv in (
-  subst (λ (l : List ℕ). bufferLength ≤ length l) (sym (inv .2)) (inv .1),
-  (
-    c .before .before .before .before .before .loop-test .taken,
-    sym
-        (c .before .before .before .before .is-closed .ensures) ∙ c .before .before .before .if1 .left,
-  ),
-)
+step-requires c κs =
+    let at-if1 = c .before .before .before in
+    let at-is-closed = at-if1 .before in
+    let at-loop-test = at-is-closed .before in
+    let at-loop = at-loop-test .before in
+    let inv = at-loop .loop .inv in (
+      subst (λ (l : List ℕ). bufferLength ≤ length l) (sym (inv .2)) (inv .1),
+      (
+        at-loop-test .loop-test .taken,
+        sym
+            (at-is-closed .is-closed .ensures) ∙ at-if1 .if1 .left,
+      ),
+    )
 
 add-i : tie.Need-add-i Inv-loop μ-loop
-add-i c = omega (arith, c .before .before .before .before .before .before .step .ensures .moves .within, c .before .before .before .before .before .before .before .before .before .before .before .before .before .before .before .before .good)
+add-i c = omega (
+  arith,
+  c .before .before .before .before .before .before .step .ensures .moves .within,
+  c .before .before .before .before .before .before .before .before .before .before .before .before .before .before .before .before .good,
+)
 
 same-length-4 : tie.Need-same-length-4 Inv-loop μ-loop
 same-length-4 c = search (needs, c .before .before .before .before .before .before .before .before .before .before .before .before .before .before .before .loop .inv .4)
@@ -55,14 +64,21 @@ same-length-5 : tie.Need-same-length-5 Inv-loop μ-loop
 same-length-5 c = search (needs, c .before .before .before .before .before .before .before .before .before .before .before .before .before .before .before .loop .inv .5)
 
 same-length-6 : tie.Need-same-length-6 Inv-loop μ-loop
-same-length-6 c = let inv = c .before .before .before .before .before .before .before .before .before .before .before .before .before .before .before .loop .inv in
+same-length-6 c =
+    let at-step = c .before .before .before .before .before .before .before .before in
+    let at-loop = at-step .before .before .before .before .before .before .before in
+    let inv = at-loop .loop .inv in
     moves-length (subst (λ (l : List ℕ). bufferLength ≤ length l) (sym (inv .2)) (inv .1))
-    (c .before .before .before .before .before .before .before .before .step .ensures .moves) ∙ ap length (inv .2)
+    (at-step .step .ensures .moves) ∙ ap length (inv .2)
 
 returns-2 : tie.Need-returns-2 Inv-loop μ-loop
-returns-2 c = let inv = c .before .before .before .before .before .before .before .before .before .before .before .before .before .before .before .loop .inv in
-    so-told (c .before .before .before .before .before .before .before .before .before .before .before .before .before .before .before .before .before .before .args .self) (inv .3)
-    (other-out (inv .2) (c .before .before .before .before .before .before .before .before .step .ensures) .moves) (c .if2 .taken)
+returns-2 c =
+    let at-step = c .before .before .before .before .before .before .before .before in
+    let at-loop = at-step .before .before .before .before .before .before .before in
+    let at-start = at-loop .before .before .before in
+    let inv = at-loop .loop .inv in
+    so-told (at-start .args .self) (inv .3)
+    (other-out (inv .2) (at-step .step .ensures) .moves) (c .if2 .taken)
 
 loop-less : tie.Need-loop-less Inv-loop μ-loop
 loop-less c = let step = c .before .before .before .before .before .before .before .before .step .ensures in
@@ -71,7 +87,8 @@ loop-less c = let step = c .before .before .before .before .before .before .befo
 loop-again : tie.Need-loop-again Inv-loop μ-loop
 loop-again c = let inv = c .before .before .before .before .before .before .before .before .before .before .before .before .before .before .before .loop .inv in
     let step = other-out (inv .2) (c .before .before .before .before .before .before .before .before .step .ensures) .moves in
-    let w = so-on (c .before .before .before .before .before .before .before .before .before .before .before .before .before .before .before .before .before .before .args .self) (inv .3) step (omega arith) in
+    let w = so-on (c .before .before .before .before .before .before .before .before .before .before .before .before .before .before .before .before .before .before .args .self)
+    (inv .3) step (omega arith) in
     (omega (arith, step .within), inv .1, w .1, w .0, search (needs, inv .4), search (needs, inv .5))
 
 same-length-7 : tie.Need-same-length-7 Inv-loop μ-loop

@@ -24,8 +24,12 @@ returns : tie.Need-returns
 returns c = search needs
 
 stretch-at-requires : tie.Need-stretch-at-requires
-stretch-at-requires c κs = let pre = c .before .before .before .before .before .before .before .before .pre in
-    (pre .0, (pre .1 .0, (pre .1 .1, start-of (c .before .before .before .before .at-start .ensures) (not-false _ (c .before .before .before .if1 .left)))))
+stretch-at-requires c κs =
+    let at-if1 = c .before .before .before in
+    let at-at-start = at-if1 .before in
+    let at-start = at-at-start .before .before .before .before in
+    let pre = at-start .pre in
+    (pre .0, (pre .1 .0, (pre .1 .1, start-of (at-at-start .at-start .ensures) (not-false _ (at-if1 .if1 .left)))))
 
 same-length-2 : tie.Need-same-length-2
 same-length-2 c = search needs

@@ -93,9 +93,11 @@ array-read-t29 c = omega (arith, c .before .loop .inv .storing .scanned .within,
 
 returns : tie.Need-returns Inv-loop μ-loop
 returns c =
-    let s = c .before .before .before .before .before .before .before .before in
+    let at-tally = c .before .before .before .before .before in
+    let at-place = at-tally .before .before .before in
+    let s = at-place in
     let l = c .before .loop in
-    let t = c .before .before .before .before .before .tally in
+    let t = at-tally .tally in
     summing-all (s .args .limits .now) (s .args .powers .now) (t .result .counts) (t .result .parts)
     (record { orderly = s .pre .0; few = s .pre .1; counted = t .ensures })
     (l .sums) (l .low) (l .higher) (l .k) (l .inv) (c .loop-test .left)

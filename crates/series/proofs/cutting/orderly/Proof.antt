@@ -37,8 +37,11 @@ loop-less c = omega arith
 
 loop-again : tie.Need-loop-again Inv-loop μ-loop
 loop-again c =
-    let l = c .before .before .before .before .loop in
-    rose-more (c .before .before .before .before .before .args .limits .now) (l .low) (l .k) (c .before .before .before .loop-test .taken) (c .before .if1 .left) (c .if2 .left) (l .inv)
+    let at-loop-test = c .before .before .before in
+    let at-loop = at-loop-test .before in
+    let at-start = at-loop .before in
+    let l = at-loop .loop in
+    rose-more (at-start .args .limits .now) (l .low) (l .k) (at-loop-test .loop-test .taken) (c .before .if1 .left) (c .if2 .left) (l .inv)
 
 returns-3 : tie.Need-returns-3 Inv-loop μ-loop
 returns-3 c =

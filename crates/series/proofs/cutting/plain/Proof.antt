@@ -53,10 +53,12 @@ sliced-requires-2 c κs = tt
 
 returns : tie.Need-returns Inv-loop μ-loop
 returns c =
-    let s = c .before .before .before .before .before .before in
+    let at-shared-slice-known = c .before .before .before .before .before in
+    let at-place = at-shared-slice-known .before in
+    let s = at-place in
     let l = c .before .before .loop in
     storing-all (s .args .limits .now) (s .args .powers .now) (l .sums) (l .low) (l .k) (c .sliced2 .result) (c .before .loop-test .left)
-    (rw (sliced-above (l .low) (s .args .powers .now) (λ i. c .before .before .before .before .before .shared-slice-known .given i .fits)) at (c .sliced2 .ensures)) (l .inv)
+    (rw (sliced-above (l .low) (s .args .powers .now) (λ i. at-shared-slice-known .shared-slice-known .given i .fits)) at (c .sliced2 .ensures)) (l .inv)
 
 pub plain-spec : {M : Type 1} → statement M
 plain-spec =

@@ -54,9 +54,11 @@ returns-3 c =
 within-requires-2 : tie.Need-within-requires-2
 within-requires-2 c κs = search needs
 
-quarters-told : (c : tie.After-within2) → c .within2 .result ≡ withinOf (pos 1) (c .before .before .before .before .before .before .before .before .before .before .before .before .args .header .quarters) (pos 100)
+quarters-told : (c : tie.After-within2) → c .within2 .result
+    ≡ withinOf (pos 1) (c .before .before .before .before .before .before .before .before .before .before .before .before .args .header .quarters) (pos 100)
 quarters-told c =
-    c .within2 .ensures ∙ rw (back32 {z = c .before .before .before .before .before .before .before .before .before .before .before .before .args .header .quarters} (c .before .struct-told2 .given .1 .1 .1 .0 .1))
+    c .within2 .ensures ∙ rw (back32 {z =
+    c .before .before .before .before .before .before .before .before .before .before .before .before .args .header .quarters} (c .before .struct-told2 .given .1 .1 .1 .0 .1))
 
 returns-4 : tie.Need-returns-4
 unfolding headerGrounds
@@ -64,7 +66,13 @@ returns-4 c =
     let d = c .before .before .before in
     let m = d .before .before .before in
     let b = m .before .before .before in
-    rw (sym (interval-told (b .before)) ∙ not-false _ (b .if1 .left), sym (lot-told (m .before)) ∙ not-false _ (m .if2 .left), sym (d .before .is-real .ensures) ∙ not-false _ (d .if3 .left), sym (quarters-told (c .before)) ∙ not-true _ (c .if4 .taken))
+    rw (
+      sym (interval-told (b .before)) ∙ not-false _ (b .if1 .left),
+      sym (lot-told (m .before))
+          ∙ not-false _ (m .if2 .left),
+      sym (d .before .is-real .ensures) ∙ not-false _ (d .if3 .left),
+      sym (quarters-told (c .before)) ∙ not-true _ (c .if4 .taken),
+    )
 
 returns-5 : tie.Need-returns-5
 unfolding headerGrounds
@@ -72,7 +80,13 @@ returns-5 c =
     let d = c .before .before .before in
     let m = d .before .before .before in
     let b = m .before .before .before in
-    rw (sym (interval-told (b .before)) ∙ not-false _ (b .if1 .left), sym (lot-told (m .before)) ∙ not-false _ (m .if2 .left), sym (d .before .is-real .ensures) ∙ not-false _ (d .if3 .left), sym (quarters-told (c .before)) ∙ not-false _ (c .if4 .left))
+    rw (
+      sym (interval-told (b .before)) ∙ not-false _ (b .if1 .left),
+      sym (lot-told (m .before))
+          ∙ not-false _ (m .if2 .left),
+      sym (d .before .is-real .ensures) ∙ not-false _ (d .if3 .left),
+      sym (quarters-told (c .before)) ∙ not-false _ (c .if4 .left),
+    )
 
 pub open-refusal-spec : {M : Type 1} → statement M
 open-refusal-spec =

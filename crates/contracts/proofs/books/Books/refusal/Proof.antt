@@ -26,7 +26,15 @@ returns c =
     let other = award .before in
     let own = other .before .before in
     let k = own .before .before .args .contract in
-    rw (c .refusal .ensures, other .book2 .ensures, other .before .opposite .ensures, own .book .ensures, back32 {z = k .award} (award .struct-told .given .1 .0 .1), back32 {z = k .price} (price .struct-told2 .given .1 .1 .0 .1))
+    rw (
+      c .refusal .ensures,
+      other .book2 .ensures,
+      other .before .opposite .ensures,
+      own .book .ensures,
+      back32 {z = k .award}
+          (award .struct-told .given .1 .0 .1),
+      back32 {z = k .price} (price .struct-told2 .given .1 .1 .0 .1),
+    )
 
 pub refusal-spec : {M : Type 1} → statement M
 refusal-spec =

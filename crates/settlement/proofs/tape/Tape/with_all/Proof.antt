@@ -52,29 +52,46 @@ number-requires c κs = search needs
 
 returns-2 : tie.Need-returns-2 Inv-loop μ-loop
 returns-2 c =
-    let turn = c .before .before .before .before .before .before .before .loop in
-    let args = c .before .before .before .before .before .before .before .before .args in
+    let at-actual = c .before .before .before in
+    let at-setpoint = at-actual .before in
+    let at-if1 = at-setpoint .before in
+    let at-loop-test = at-if1 .before in
+    let at-loop = at-loop-test .before in
+    let at-start = at-loop .before in
+    let turn = at-loop .loop in
+    let args = at-start .args in
     let sp = args .setpoints .now in
     let ac = args .actuals .now in
-    let x = back32 {z = getD sp (turn .k) (pos 0)} (c .before .before .before .before .setpoint .given) in
-    let y = back32 {z = getD ac (turn .k) (pos 0)} (c .before .before .before .actual .given) in
+    let x = back32 {z = getD sp (turn .k) (pos 0)} (at-setpoint .setpoint .given) in
+    let y = back32 {z = getD ac (turn .k) (pos 0)} (at-actual .actual .given) in
     let g : c .before .before .sample-refusal .result ≡ sampleRefusal (args .size) (turn .self .filled) (args .taken) (args .quarters) (getD sp (turn .k) (pos 0)) (getD ac (turn .k) (pos 0)) =
     c .before .before .sample-refusal .ensures .is ∙ rw (x, y) in
     let e = ap accepted (sym g) ∙ ap (λ (n : ℕ). eqb n 0) (sym (c .before .number .ensures)) ∙ ne-eqb _ _ (c .if2 .taken) in
     ap (λ (r : Refusal). record { tape = turn .self; refusal = r }) g
-    ∙ sym (turn .inv .1 ∙ refused-here _ _ _ (turn .self) sp ac (turn .k) (c .before .before .before .before .before .before .loop-test .taken) (c .before .before .before .before .before .if1 .left) e)
+    ∙ sym (turn .inv .1 ∙ refused-here _ _ _ (turn .self) sp ac (turn .k) (at-loop-test .loop-test .taken)
+    (at-if1 .if1 .left) e)
 
 mul-setpoint-2 : tie.Need-mul-setpoint-2 Inv-loop μ-loop
-mul-setpoint-2 c = omega (arith, c .before .before .sample-refusal .ensures .room (sym (c .before .number .ensures) ∙ c .if2 .left), c .before .before .before .before .before .before .before .before .pre)
+mul-setpoint-2 c = omega (
+  arith,
+  c .before .before .sample-refusal .ensures .room (sym (c .before .number .ensures) ∙ c .if2 .left),
+  c .before .before .before .before .before .before .before .before .pre,
+)
 
 element-set-from-setpoint : tie.Need-element-set-from-setpoint Inv-loop μ-loop
-element-set-from-setpoint c = omega (arith, c .before .before .sample-refusal .ensures .room (sym (c .before .number .ensures) ∙ c .if2 .left), c .before .before .before .before .before .before .before .before .pre)
+element-set-from-setpoint c = omega
+    (arith, c .before .before .sample-refusal .ensures .room (sym (c .before .number .ensures) ∙ c .if2 .left), c .before .before .before .before .before .before .before .before .pre)
 
 mul-actual-2 : tie.Need-mul-actual-2 Inv-loop μ-loop
-mul-actual-2 c = omega (arith, c .before .before .sample-refusal .ensures .room (sym (c .before .number .ensures) ∙ c .if2 .left), c .before .before .before .before .before .before .before .before .pre)
+mul-actual-2 c = omega (
+  arith,
+  c .before .before .sample-refusal .ensures .room (sym (c .before .number .ensures) ∙ c .if2 .left),
+  c .before .before .before .before .before .before .before .before .pre,
+)
 
 element-set-from-actual : tie.Need-element-set-from-actual Inv-loop μ-loop
-element-set-from-actual c = omega (arith, c .before .before .sample-refusal .ensures .room (sym (c .before .number .ensures) ∙ c .if2 .left), c .before .before .before .before .before .before .before .before .pre)
+element-set-from-actual c = omega
+    (arith, c .before .before .sample-refusal .ensures .room (sym (c .before .number .ensures) ∙ c .if2 .left), c .before .before .before .before .before .before .before .before .pre)
 
 add-self : tie.Need-add-self Inv-loop μ-loop
 add-self c = omega (arith, c .before .before .sample-refusal .ensures .room (sym (c .before .number .ensures) ∙ c .if2 .left), c .before .before .before .before .before .before .before .before .pre)
@@ -98,7 +115,8 @@ loop-again c =
     c .before .before .sample-refusal .ensures .is ∙ rw (x, y) in
     let e = ap accepted (sym g) ∙ ap (λ (n : ℕ). eqb n 0) (sym (c .before .number .ensures)) ∙ eq-eqb _ _ (c .if2 .left) in (
       omega arith,
-      turn .inv .1 ∙ taken-here _ _ _ (turn .self) sp ac (turn .k) (c .before .before .before .before .before .before .loop-test .taken) (c .before .before .before .before .before .if1 .left) e ∙ sym (rw (x, y)),
+      turn .inv .1 ∙ taken-here _ _ _ (turn .self) sp ac (turn .k) (c .before .before .before .before .before .before .loop-test .taken)
+          (c .before .before .before .before .before .if1 .left) e ∙ sym (rw (x, y)),
     )
 
 returns-3 : tie.Need-returns-3 Inv-loop μ-loop

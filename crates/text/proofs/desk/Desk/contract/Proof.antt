@@ -21,15 +21,23 @@ same-length c = search needs
 
 returns : tie.Need-returns
 unfolding contractTurn
-returns c = as-turn (refuses _ _ _ (c .before .before .before .before .before .number .ensures) (ap (λ (a : Answer). a .refusal) (c .before .before .before .before .before .before .before .contract .ensures)) (c .before .before .before .before .if1 .taken)) (c .before .before .refused .ensures)
+returns c =
+    let at-if1 = c .before .before .before .before in
+    let at-number = at-if1 .before in
+    let at-contract = at-number .before .before in
+    as-turn (refuses _ _ _ (at-number .number .ensures)
+    (ap (λ (a : Answer). a .refusal) (at-contract .contract .ensures))
+    (at-if1 .if1 .taken)) (c .before .before .refused .ensures)
 
 goes-on-requires : tie.Need-goes-on-requires
 goes-on-requires c κs = search needs
 
 returns-2 : tie.Need-returns-2
 unfolding contractTurn
-returns-2 c = as-turn (goes-on _ _ _ (c .before .before .number .ensures) (ap (λ (a : Answer). a .refusal) (c .before .before .before .before .contract .ensures)) (c .before .if1 .left))
-    (rw (← c .before .before .before .before .contract .ensures, c .goes-on .ensures) (silent _ _ _))
+returns-2 c =
+    let at-contract = c .before .before .before .before in
+    as-turn (goes-on _ _ _ (c .before .before .number .ensures) (ap (λ (a : Answer). a .refusal) (at-contract .contract .ensures)) (c .before .if1 .left))
+    (rw (← at-contract .contract .ensures, c .goes-on .ensures) (silent _ _ _))
 
 pub contract-spec : {M : Type 1} → statement M
 contract-spec =

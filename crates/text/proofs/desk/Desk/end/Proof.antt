@@ -22,7 +22,12 @@ same-length c = search needs
 
 returns : tie.Need-returns
 unfolding endTurn
-returns c = as-turn (refuses _ _ _ (c .before .before .before .before .before .number .ensures) (ap (λ (a : Ended). a .refusal) (c .before .before .before .before .before .before .end .ensures)) (c .before .before .before .before .if1 .taken)) (c .before .before .refused .ensures)
+returns c =
+    let at-if1 = c .before .before .before .before in
+    let at-number = at-if1 .before in
+    let at-end = at-number .before in
+    as-turn (refuses _ _ _ (at-number .number .ensures)
+    (ap (λ (a : Ended). a .refusal) (at-end .end .ensures)) (at-if1 .if1 .taken)) (c .before .before .refused .ensures)
 
 print-total-requires : tie.Need-print-total-requires
 print-total-requires c κs = search needs
@@ -37,7 +42,8 @@ returns-2 : tie.Need-returns-2
 unfolding endTurn
 returns-2 c =
     let p = c .before .before .before .print-total .ensures in
-    as-turn (goes-on _ _ _ (c .before .before .before .before .before .before .before .number .ensures) (ap (λ (a : Ended). a .refusal) (c .before .before .before .before .before .before .before .before .end .ensures)) (c .before .before .before .before .before .before .if1 .left))
+    as-turn (goes-on _ _ _ (c .before .before .before .before .before .before .before .number .ensures)
+    (ap (λ (a : Ended). a .refusal) (c .before .before .before .before .before .before .before .before .end .ensures)) (c .before .before .before .before .before .before .if1 .left))
     (rw (← c .before .before .before .before .before .before .before .before .end .ensures) (told (c .answer .ensures) (p .0) (p .1 .0) (omega (arith, p .1 .1))))
 
 pub end-spec : {M : Type 1} → statement M

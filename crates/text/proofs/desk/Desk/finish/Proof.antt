@@ -26,13 +26,21 @@ same-length : tie.Need-same-length
 same-length c = search needs
 
 returns : tie.Need-returns
-returns c = as-turn (finish-at _ (c .before .before .before .before .enum-told .given .1) _) (rw (← c .before .before .before .before .before .before .wrapping-add-u64 .ensures) (c .before .before .refused .ensures))
+returns c =
+    let at-enum-told = c .before .before .before .before in
+    let at-wrapping-add-u64 = at-enum-told .before .before in
+    as-turn (finish-at _ (at-enum-told .enum-told .given .1) _)
+    (rw (← at-wrapping-add-u64 .wrapping-add-u64 .ensures) (c .before .before .refused .ensures))
 
 same-length-2 : tie.Need-same-length-2
 same-length-2 c = search needs
 
 returns-2 : tie.Need-returns-2
-returns-2 c = as-turn (finish-at _ (c .before .before .before .before .enum-told2 .given .1) _) (rw (← c .before .before .before .before .before .before .wrapping-add-u64 .ensures) (c .before .before .refused2 .ensures))
+returns-2 c =
+    let at-enum-told2 = c .before .before .before .before in
+    let at-wrapping-add-u64 = at-enum-told2 .before .before in
+    as-turn (finish-at _ (at-enum-told2 .enum-told2 .given .1) _)
+    (rw (← at-wrapping-add-u64 .wrapping-add-u64 .ensures) (c .before .before .refused2 .ensures))
 
 returns-3 : tie.Need-returns-3
 returns-3 c = as-turn (finish-at _ (c .enum-told3 .given .1) _) (silent _ _ _)

@@ -22,7 +22,13 @@ same-length c = search needs
 
 returns : tie.Need-returns
 unfolding openTurn
-returns c = as-turn (refuses _ _ _ (c .before .before .before .before .before .number .ensures) (ap (λ (o : Opened). o .refusal) (c .before .before .before .before .before .before .before .«open» .ensures)) (c .before .before .before .before .if1 .taken)) (c .before .before .refused .ensures)
+returns c =
+    let at-if1 = c .before .before .before .before in
+    let at-number = at-if1 .before in
+    let at-place = at-number .before .before in
+    as-turn (refuses _ _ _ (at-number .number .ensures)
+    (ap (λ (o : Opened). o .refusal) (at-place .«open» .ensures))
+    (at-if1 .if1 .taken)) (c .before .before .refused .ensures)
 
 heading-requires : tie.Need-heading-requires
 heading-requires c κs = search needs
@@ -40,8 +46,13 @@ returns-2 : tie.Need-returns-2
 unfolding openTurn
 returns-2 c =
     let p = c .before .before .before .print-head .ensures in
-    as-turn (goes-on _ _ _ (c .before .before .before .before .before .before .before .before .number .ensures) (ap (λ (o : Opened). o .refusal) (c .before .before .before .before .before .before .before .before .before .before .«open» .ensures)) (c .before .before .before .before .before .before .before .if1 .left))
-    (rw (← c .before .before .before .before .before .before .before .before .before .before .«open» .ensures, ← c .before .before .before .before .before .before .heading .ensures) (told (c .answer .ensures) (p .0) (p .1 .0) (omega (arith, p .1 .1))))
+    as-turn (goes-on _ _ _ (c .before .before .before .before .before .before .before .before .number .ensures)
+    (ap (λ (o : Opened). o .refusal) (c .before .before .before .before .before .before .before .before .before .before .«open» .ensures))
+    (c .before .before .before .before .before .before .before .if1 .left))
+    (rw (
+      ← c .before .before .before .before .before .before .before .before .before .before .«open» .ensures,
+      ← c .before .before .before .before .before .before .heading .ensures,
+    ) (told (c .answer .ensures) (p .0) (p .1 .0) (omega (arith, p .1 .1))))
 
 pub open-spec : {M : Type 1} → statement M
 open-spec =

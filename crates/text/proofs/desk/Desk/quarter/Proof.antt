@@ -44,7 +44,12 @@ same-length c = search needs
 returns-3 : tie.Need-returns-3
 unfolding quarterTurn
 returns-3 c = let p = c .before .before .before .print-taken .ensures in
-    rw (← c .before .before .before .before .before .before .before .before .take .ensures, none-refused _ _ (c .before .before .before .before .before .before .before .number .ensures) (c .before .before .before .before .before .before .if2 .left)) (told (c .answer .ensures) (p .0) (p .1 .0) (omega (arith, p .1 .1)))
+    rw (
+      ← c .before .before .before .before .before .before .before .before .take .ensures,
+      none-refused _ _
+          (c .before .before .before .before .before .before .before .number .ensures) (c .before .before .before .before .before .before .if2 .left),
+    )
+    (told (c .answer .ensures) (p .0) (p .1 .0) (omega (arith, p .1 .1)))
 
 pub quarter-spec : {M : Type 1} → statement M
 quarter-spec =

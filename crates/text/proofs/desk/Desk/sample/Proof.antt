@@ -21,7 +21,13 @@ same-length c = search needs
 
 returns : tie.Need-returns
 unfolding sampleTurn
-returns c = as-turn (refuses _ _ _ (c .before .before .before .before .before .number .ensures) (ap (λ (a : Answer). a .refusal) (c .before .before .before .before .before .before .before .sample .ensures)) (c .before .before .before .before .if1 .taken)) (c .before .before .refused .ensures)
+returns c =
+    let at-if1 = c .before .before .before .before in
+    let at-number = at-if1 .before in
+    let at-sample = at-number .before .before in
+    as-turn (refuses _ _ _ (at-number .number .ensures)
+    (ap (λ (a : Answer). a .refusal) (at-sample .sample .ensures))
+    (at-if1 .if1 .taken)) (c .before .before .refused .ensures)
 
 quarter-requires : tie.Need-quarter-requires
 quarter-requires c κs = search needs
@@ -31,7 +37,13 @@ same-length-2 c = search needs
 
 returns-2 : tie.Need-returns-2
 unfolding sampleTurn
-returns-2 c = as-turn (goes-on _ _ _ (c .before .before .before .before .before .number .ensures) (ap (λ (a : Answer). a .refusal) (c .before .before .before .before .before .before .before .sample .ensures)) (c .before .before .before .before .if1 .left)) (rw (← c .before .before .before .before .before .before .before .sample .ensures) (c .before .before .quarter .ensures))
+returns-2 c =
+    let at-if1 = c .before .before .before .before in
+    let at-number = at-if1 .before in
+    let at-sample = at-number .before .before in
+    as-turn (goes-on _ _ _ (at-number .number .ensures)
+    (ap (λ (a : Answer). a .refusal) (at-sample .sample .ensures))
+    (at-if1 .if1 .left)) (rw (← at-sample .sample .ensures) (c .before .before .quarter .ensures))
 
 pub sample-spec : {M : Type 1} → statement M
 sample-spec =
