@@ -121,9 +121,9 @@ stands (suc k) s a =
     ]
 
 -- so each field that is kept is the line's
-pub held-is : (line : List ℕ) (k : ℕ) → k < 16 → heldAt (splitOf line) k line ≡ fieldAt k (fields line)
+pub field-held : (line : List ℕ) (k : ℕ) → k < 16 → heldAt (splitOf line) k line ≡ fieldAt k (fields line)
 unfolding heldAt splitOf Stand
-held-is line k h =
+field-held line k h =
     let z : 0 + k ≡ k = omega arith in
     let blank : getD noPlaces (0 + k) nowhere ≡ nowhere = rw z (unkept k h) in
     let found : getD (sets noPlaces 0 (placesFrom 0 (fields line))) k nowhere ≡ getD (placesFrom 0 (fields line)) k nowhere =

@@ -44,8 +44,11 @@ returns-4 c = search needs
 
 returns-5 : tie.Need-returns-5
 returns-5 c =
-    rw (c .before .before .before .before .before .before .before .before .before .before .date .given .1, c .before .before .before .before .before .before .before .interval .given .1, c .before .before .before .before .lot .given .1, c .before .quarters .given .1)
-    (rw (toZ-ofZ {w = w32} (sfits-of (c .before .before .before .before .before .before .known-told2 .given .0 .1)), toZ-ofZ {w = w32} (sfits-of (c .known-told4 .given .0 .1))))
+    let at-lot = c .before .before .before .before in
+    let at-interval = at-lot .before .before .before in
+    let at-date = at-interval .before .before .before in
+    rw (at-date .date .given .1, at-interval .interval .given .1, at-lot .lot .given .1, c .before .quarters .given .1)
+    (rw (toZ-ofZ {w = w32} (sfits-of (at-lot .before .before .known-told2 .given .0 .1)), toZ-ofZ {w = w32} (sfits-of (c .known-told4 .given .0 .1))))
 
 pub header-of-spec : {M : Type 1} → statement M
 header-of-spec =

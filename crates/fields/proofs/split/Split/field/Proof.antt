@@ -3,7 +3,7 @@
 use Rattle.fields.specs.declared.split.Split.{Split}
 use denote.Ref.{now}
 use mathlib.Core.Path.{ap}
-use Rattle.fields.proofs.SplitLaws.{held-is}
+use Rattle.fields.proofs.SplitLaws.{field-held}
 use mathlib.Core.Path.{_≡_, _∙_}
 use Rattle.fields.specs.Split.{heldAt}
 use borrow.Author.Needs.{needs}
@@ -22,7 +22,7 @@ returns c =
     let line = c .before .before .before .before .args .line .now in
     let k = c .before .before .before .before .args .k in
     let held : now (c .bytes-at .result) ≡ heldAt (c .before .before .before .before .args .self) k line = rw (← c .before .place-of .ensures) (c .bytes-at .ensures) in
-    (held, λ same kept. held ∙ ap (λ (split : Split). heldAt split k line) same ∙ held-is line k kept)
+    (held, λ same kept. held ∙ ap (λ (split : Split). heldAt split k line) same ∙ field-held line k kept)
 
 pub field-spec : {M : Type 1} → statement M
 field-spec = tie.close (tie.spec place-of-requires bytes-at-requires returns)
