@@ -5,8 +5,8 @@ use Rattle.binding.specs.Single.{Single, SingleIn}
 use Rattle.fields.proofs.day.date_of.Reads as date-of
 use Rattle.fields.proofs.number.long_number_of.Reads as long-number-of
 use Rattle.fields.proofs.number.number_of.Reads as number-of
-use Rattle.fields.proofs.split.field.Reads as field
-use Rattle.fields.proofs.split.has_fields.Reads as has-fields
+use Rattle.fields.proofs.split.split_of.Reads as split-of
+use Rattle.fields.proofs.split.Split.field.Reads as field
 
 date-of-single : Single date-of.Post
 date-of-single κs a r r′ x x′ p q = p ∙ sym q
@@ -17,8 +17,8 @@ long-number-of-single κs a r r′ x x′ p q = p ∙ sym q
 number-of-single : Single number-of.Post
 number-of-single κs a r r′ x x′ p q = p ∙ sym q
 
-field-single : SingleIn (λ κs r. now r) field.Post
-field-single κs a r r′ x x′ p q = p ∙ sym q
+split-of-single : Single split-of.Post
+split-of-single κs a r r′ x x′ p q = p ∙ sym q
 
-has-fields-single : Single has-fields.Post
-has-fields-single κs a r r′ x x′ p q = p ∙ sym q
+field-single : SingleIn (λ κs r. now r) field.Post
+field-single κs a r r′ x x′ p q = p .0 ∙ sym (q .0)

@@ -18,7 +18,6 @@ mod script; // what the fields of a line say
 
 use arithmetic::money::Cents;
 use contracts::books::Books;
-use fields::split::field;
 use libc::STDIN_FILENO;
 use quarter::sheet::Sheets;
 use quarter::sheet::no_sheets;
@@ -79,7 +78,7 @@ fn contract_of(line: &[u8]) -> Contract {
 }
 
 fn contract(run: Run, at: u64, line: &[u8]) -> Run {
-    let answer = run.contract(contract_of(line), field(line, 4));
+    let answer = run.contract(contract_of(line), script::field(line, 4));
     let after = answer.run;
     let refusal = answer.refusal;
     answer::answered(at, refusal);

@@ -6,11 +6,16 @@ use arithmetic::whole::negative_part;
 use arithmetic::whole::positive_part;
 use fields::number::LongNumber;
 use fields::number::long_number_of;
-use fields::split::field;
+use fields::split::split_of;
 use vocabulary::direction::Direction;
 use vocabulary::interval::Interval;
 use vocabulary::refusal::Refusal;
 ghost use Prim.Native.Nat.{_≤_};
+
+// No line of a script has more fields than a split keeps.
+pub(crate) fn field(line: &[u8], k: usize) -> &[u8] {
+    split_of(line).field(line, k)
+}
 
 pub(crate) fn letter(line: &[u8], k: usize) -> u8 {
     let text = field(line, k);

@@ -10,24 +10,24 @@ use lib.ListN.{length, drop, length-append}
 use lib.Dec.{eqb, ltb}
 use lib.IntN.{ℤ}
 use Rattle.vocabulary.specs.declared.sample.Sample.{Sample}
-use Rattle.fields.specs.Fields.{fields, fieldAt, onFirst}
-use Rattle.fields.proofs.FieldLaws.{numbered, counted}
+use Rattle.fields.specs.Fields.{fields, fieldAt}
+use Rattle.fields.proofs.FieldLaws.{fields-tab, fields-other, fields-none, numbered, counted}
 use Rattle.fields.specs.Numbers.{valueFrom, unsignedOf, numberOf}
 use Rattle.fields.specs.declared.number.Digits.the-variants as F
 use Rattle.fields.specs.declared.number.Number.{Number}
 use Rattle.fields.specs.declared.number.Number.the-variants as N
 use Rattle.fields.specs.declared.day.Day.{Day}
 use Rattle.fields.specs.declared.day.Day.the-variants as D
-use Rattle.lines.specs.Lines.{linesOf}
+use Rattle.lines.specs.Lines.{onFirst, linesOf}
 use Rattle.lines.proofs.LineLaws.{NoLf, none, another, Written, last, ended, read-back, written}
 use Rattle.fields.specs.Day.{dayOf}
-use Rattle.reading.specs.Line.{isLetter, kindOf, sideOf, lotOf, headerFields, contractFields, sampleFields, headerOf, contractOf, sampleOf, endOf, byKind, lineOf}
+use Rattle.reading.specs.Line.{isLetter, kindOf, directionOf, lotOf, headerFields, contractFields, sampleFields, headerOf, contractOf, sampleOf, endOf, byKind, lineOf}
 use Rattle.reading.specs.declared.Kind.{Kind}
 use Rattle.reading.specs.declared.Kind.the-variants as K
-use Rattle.reading.specs.declared.Side.{Side}
+use Rattle.reading.specs.declared.DirectionField.{DirectionField}
 use Rattle.reading.specs.declared.LotField.{LotField}
 use Rattle.reading.specs.declared.LotField.the-variants as LF
-use Rattle.reading.specs.declared.Side.the-variants as S
+use Rattle.reading.specs.declared.DirectionField.the-variants as DF
 use Rattle.reading.specs.declared.Line.{Line}
 use Rattle.reading.specs.declared.Line.the-variants as L
 use Rattle.vocabulary.specs.Sample.{powerInRange}
@@ -88,20 +88,8 @@ short-number (x ∷ xs) z e r =
     ]
 
 -- fields with no tab in them
-fields-tab : (xs : List ℕ) → fields (9 ∷ xs) ≡ [] ∷ fields xs
-unfolding fields
-fields-tab xs = refl
-
-fields-other : (x : ℕ) (xs : List ℕ) → (x ≡ 9 → ⊥) → fields (x ∷ xs) ≡ onFirst x (fields xs)
-unfolding fields
-fields-other x xs e = rw (ne-eqb x 9 e)
-
-fields-none : fields [] ≡ [] ∷ []
-unfolding fields
-fields-none = refl
-
 field-before : {a : List ℕ} (l : List ℕ) → Solid a → fields (a ++ (9 ∷ l)) ≡ a ∷ fields l
-field-before l empty = fields-tab l
+field-before l empty = fields-tab 9 l refl
 field-before l (more {x} {xs} h s) = fields-other x (xs ++ (9 ∷ l)) (λ e. omega arith) ∙ ap (onFirst x) (field-before l s)
 
 field-last : {b : List ℕ} → Solid b → fields b ≡ b ∷ []
@@ -132,7 +120,7 @@ module _ (a b : List ℕ) (x y : ℤ) (p : numberOf a ≡ N.Value x) (q : number
   three =
       fields-other 83 (9 ∷ (a ++ (9 ∷ b))) (λ e. omega arith)
       ∙ ap (onFirst 83)
-      (fields-tab (a ++ (9 ∷ b))
+      (fields-tab 9 (a ++ (9 ∷ b)) refl
       ∙ ap (λ (fs : List (List ℕ)). [] ∷ fs)
       (field-before b (short-number a x p u .solid) ∙ ap (λ (fs : List (List ℕ)). a ∷ fs) (field-last (short-number b y q v .solid))))
 
@@ -172,13 +160,13 @@ module _ {s : List ℕ} {at : ℕ} {row : Row} (h : Shape s at row) where
   shape-first = rw (shape-lines, shape-says, h .setpoint-ranged, h .actual-ranged, shape-place)
 
 -- and the other way round: a line that says a sample in range has that shape
-record Split (line : List ℕ) (lines : List (List ℕ)) (t : List ℕ) : Type 0 where
+record LineFirst (line : List ℕ) (lines : List (List ℕ)) (t : List ℕ) : Type 0 where
   rest : List ℕ
   form : t ≡ line ++ (10 ∷ rest)
 
-split : {ls : List (List ℕ)} {t : List ℕ} → Written ls t → (line : List ℕ) (lines : List (List ℕ)) → ls ≡ line ∷ lines → Split line lines t
-split (last n) line lines e = absurd (let q : _≡_ {A = ℕ} 0 1 = cc in (omega arith))
-split (ended {line = l} {lines = ls} {input} n w) line lines e = let q : l ≡ line = cc in record { rest = input; form = rw q }
+line-first : {ls : List (List ℕ)} {t : List ℕ} → Written ls t → (line : List ℕ) (lines : List (List ℕ)) → ls ≡ line ∷ lines → LineFirst line lines t
+line-first (last n) line lines e = absurd (let q : _≡_ {A = ℕ} 0 1 = cc in (omega arith))
+line-first (ended {line = l} {lines = ls} {input} n w) line lines e = let q : l ≡ line = cc in record { rest = input; form = rw q }
 
 -- the fields, each after a tab
 abbrev tabbed : List (List ℕ) → List ℕ
@@ -189,7 +177,7 @@ parted : (l : List ℕ) → 9 ∷ l ≡ tabbed (fields l)
 parted [] = rw fields-none
 parted (x ∷ xs) =
     elim (ℕ-discrete x 9) [
-      | yes e ↦ rw (e, fields-tab xs) (ap (λ (l : List ℕ). 9 ∷ l) (parted xs))
+      | yes e ↦ rw (e, fields-tab 9 xs refl) (ap (λ (l : List ℕ). 9 ∷ l) (parted xs))
       | no e ↦ rw (fields-other x xs e) (before (fields xs) (parted xs))
     ]
   where
@@ -232,11 +220,11 @@ no-header (D.Of d) (N.Value i) LF.Malformed q s e = let z : _≡_ {A = ℕ} 0 1 
 no-header (D.Of d) N.Malformed l q s e = let z : _≡_ {A = ℕ} 0 1 = cc in omega arith
 no-header D.Malformed i l q s e = let z : _≡_ {A = ℕ} 0 1 = cc in omega arith
 
-no-contract : (d : Side) (a p : Number) (s : Sample) → contractFields d a p ≡ L.Sample s → ⊥
-no-contract (S.Of d) (N.Value a) (N.Value p) s e = let z : _≡_ {A = ℕ} 0 1 = cc in omega arith
-no-contract (S.Of d) (N.Value a) N.Malformed s e = let z : _≡_ {A = ℕ} 0 1 = cc in omega arith
-no-contract (S.Of d) N.Malformed p s e = let z : _≡_ {A = ℕ} 0 1 = cc in omega arith
-no-contract S.Malformed a p s e = let z : _≡_ {A = ℕ} 0 1 = cc in omega arith
+no-contract : (d : DirectionField) (a p : Number) (s : Sample) → contractFields d a p ≡ L.Sample s → ⊥
+no-contract (DF.Of d) (N.Value a) (N.Value p) s e = let z : _≡_ {A = ℕ} 0 1 = cc in omega arith
+no-contract (DF.Of d) (N.Value a) N.Malformed s e = let z : _≡_ {A = ℕ} 0 1 = cc in omega arith
+no-contract (DF.Of d) N.Malformed p s e = let z : _≡_ {A = ℕ} 0 1 = cc in omega arith
+no-contract DF.Malformed a p s e = let z : _≡_ {A = ℕ} 0 1 = cc in omega arith
 
 of-fields : (b : Bool) (l : Line) (s : Sample) → cond b l L.Malformed ≡ L.Sample s → (b ≡ true) × (l ≡ L.Sample s)
 of-fields true l s e = (refl, e)
@@ -261,7 +249,7 @@ by-kind K.Header fs s e =
     (of-fields (eqb (length fs) 5) _ s e .1))
 by-kind K.Contract fs s e =
     absurd
-    (no-contract (sideOf (fieldAt 1 fs)) (numberOf (fieldAt 3 fs)) (numberOf (fieldAt 4 fs)) s
+    (no-contract (directionOf (fieldAt 1 fs)) (numberOf (fieldAt 3 fs)) (numberOf (fieldAt 4 fs)) s
     (of-fields (eqb (length fs) 5) _ s e .1))
 by-kind K.Sample fs s e = (refl, e)
 by-kind K.End fs s e = absurd (let q : L.End ≡ L.Sample s = of-fields (eqb (length fs) 1) _ s e .1 in let z : _≡_ {A = ℕ} 0 1 = cc in (omega arith))
@@ -313,7 +301,7 @@ shaped s at row [] q e = absurd (let z : _≡_ {A = ℕ} 0 1 = cc in (omega arit
 shaped s at row (line ∷ lines) q e =
     let r = ranged (at + (length line + 1)) (lineOf line) row e in
     let w = said line (r .sample) (r .says) in
-    let p = split (written (drop at s)) line lines q in
+    let p = line-first (written (drop at s)) line lines q in
     let to : row .to ≡ at + (length line + 1) = ap (λ (t : Row). t .to) (r .is) in
     record {
       a = w .a;
