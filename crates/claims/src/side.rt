@@ -1,4 +1,5 @@
 // The samples of a quarter hour with the bounds at each, and each quantity of them as a direction sees it.
+use arithmetic::power::Power;
 use arithmetic::power::Units;
 use channel::Channel;
 use values::part::facing;
@@ -55,20 +56,20 @@ fn no_powers() -> [u64; 900]
 
 impl Sample {
     // A sample with the bounds at it.
-    fn bounded(setpoint: i32, actual: i32, oga: i64, uga: i64) -> Sample
-        ensures { λ r. ⌜ r ≡ sampleWith setpoint actual oga uga ⌝ }
+    fn bounded(setpoint: i32, actual: i32, oga: Units, uga: Units) -> Sample
+        ensures { λ r. ⌜ r ≡ sampleWith setpoint actual (oga .0) (uga .0) ⌝ }
     {
         Sample {
             setpoint: setpoint,
             actual: actual,
-            oga: Units(oga),
-            uga: Units(uga),
+            oga: oga,
+            uga: uga,
         }
     }
 
     // A quantity of it as a direction sees it, in units.
-    fn power(self, direction: Direction, quantity: Quantity) -> u64
-        ensures { λ r. ⌜ r ≡ powerIn direction quantity self ⌝ }
+    fn power(self, direction: Direction, quantity: Quantity) -> Power
+        ensures { λ r. ⌜ r .0 ≡ powerIn direction quantity self ⌝ }
     {
         let oga = self.oga;
         let uga = self.uga;
@@ -96,7 +97,7 @@ pub(crate) fn follow(
     let mut samples = no_samples();
     let mut i = 0;
     while i < count {
-        samples[i] = Sample::bounded(setpoints[i], actuals[i], ogas[i], ugas[i]);
+        samples[i] = Sample::bounded(setpoints[i], actuals[i], Units(ogas[i]), Units(ugas[i]));
         i += 1;
     }
     Followed {
@@ -106,7 +107,7 @@ pub(crate) fn follow(
 }
 
 impl Side {
-    // A quantity of each sample, in units.
+    // A quantity of each sample, in units: plain numbers, since a slice of structs could not be read.
     pub(crate) fn powers(self, quantity: Quantity) -> [u64; 900]
         requires { ⌜ Timely self ⌝ }
         ensures { λ r. ⌜ Filled (powersIn self quantity) r ⌝ }
@@ -118,7 +119,7 @@ impl Side {
         let mut i = 0;
         while i < count {
             let sample = samples[i];
-            out[i] = sample.power(direction, quantity);
+            out[i] = sample.power(direction, quantity).0;
             i += 1;
         }
         out

@@ -1,5 +1,6 @@
 // The contracts of a direction as a quarter hour takes them: awards and prices, and the limits that the awards add up to.
 use crate::book::Awarded;
+use arithmetic::power::Power;
 ghost use mathlib.Core.Path.{_≡_};
 ghost use Prim.Native.Nat.{_*_, _≤_, _^_};
 ghost use Rattle.series.specs.Cuts.{noSums};
@@ -28,10 +29,10 @@ fn no_limits() -> [u64; 32]
 }
 
 // A contract's award, in units.
-fn award(terms: Terms) -> u64
-    ensures { λ r. ⌜ (r ≡ terms .award * 5400) × (r ≤ 2 ^ 45) ⌝ }
+fn award(terms: Terms) -> Power
+    ensures { λ r. ⌜ (r .0 ≡ terms .award * 5400) × (r .0 ≤ 2 ^ 45) ⌝ }
 {
-    (terms.award as u64) * 5400
+    Power((terms.award as u64) * 5400)
 }
 
 // The upper limit of each contract, in units: the sum of the awards up to its own.
@@ -42,7 +43,7 @@ pub fn limits(terms: [Terms; 32]) -> [u64; 32]
     let mut high: u64 = 0;
     let mut k = 0;
     while k < 32 {
-        high += award(terms[k]);
+        high += award(terms[k]).0;
         out[k] = high;
         k += 1;
     }

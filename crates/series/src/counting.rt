@@ -4,6 +4,7 @@
 use crate::cutting::MOST;
 use crate::cutting::Pieces;
 use crate::cutting::no_sums;
+use arithmetic::power::Power;
 use std::num::wrapping_add_u64;
 use std::num::wrapping_sub_u64;
 ghost use mathlib.Core.Path.{_≡_};
@@ -25,33 +26,33 @@ fn no_places() -> [u64; 33]
 }
 
 // The limits around a place.
-fn lower(limits: &[u64], place: usize) -> u64
+fn lower(limits: &[u64], place: usize) -> Power
     requires { ⌜ place ≤ length (now limits) ⌝ }
-    ensures { λ r. ⌜ r ≡ lowAt (now (limits .entry)) place ⌝ }
+    ensures { λ r. ⌜ r .0 ≡ lowAt (now (limits .entry)) place ⌝ }
 {
     if place == 0 {
-        return 0;
+        return Power(0);
     }
-    limits[place - 1]
+    Power(limits[place - 1])
 }
 
-fn upper(limits: &[u64], place: usize) -> u64
-    ensures { λ r. ⌜ r ≡ highAt (now (limits .entry)) place ⌝ }
+fn upper(limits: &[u64], place: usize) -> Power
+    ensures { λ r. ⌜ r .0 ≡ highAt (now (limits .entry)) place ⌝ }
 {
     if place < limits.len() {
-        return limits[place];
+        return Power(limits[place]);
     }
-    MOST
+    Power(MOST)
 }
 
 // From a place up to one that a power does not pass.
-fn climbed(limits: &[u64], from: usize, power: u64) -> usize
+fn climbed(limits: &[u64], from: usize, power: Power) -> usize
     requires { ⌜ from ≤ length (now limits) ⌝ }
-    ensures { λ r. ⌜ (r ≤ length (now (limits .entry))) × (power ≤ highAt (now (limits .entry)) r) ⌝ }
+    ensures { λ r. ⌜ (r ≤ length (now (limits .entry))) × (power .0 ≤ highAt (now (limits .entry)) r) ⌝ }
 {
     let mut place = from;
     while place < limits.len() {
-        if power <= limits[place] {
+        if power.0 <= limits[place] {
             return place;
         }
         place += 1;
@@ -60,13 +61,13 @@ fn climbed(limits: &[u64], from: usize, power: u64) -> usize
 }
 
 // From a place that a power does not pass down to the one where it ends.
-fn descended(limits: &[u64], from: usize, power: u64) -> usize
-    requires { ⌜ (from ≤ length (now limits)) × (power ≤ highAt (now limits) from) ⌝ }
-    ensures { λ r. ⌜ Placed (now (limits .entry)) power r ⌝ }
+fn descended(limits: &[u64], from: usize, power: Power) -> usize
+    requires { ⌜ (from ≤ length (now limits)) × (power .0 ≤ highAt (now limits) from) ⌝ }
+    ensures { λ r. ⌜ Placed (now (limits .entry)) (power .0) r ⌝ }
 {
     let mut place = from;
     while 0 < place {
-        if limits[place - 1] <= power {
+        if limits[place - 1] <= power.0 {
             return place;
         }
         place -= 1;
@@ -81,10 +82,13 @@ struct Run {
     sum: u64,
 }
 
-fn stretch(powers: &[u64], low: u64, high: u64) -> Run
-    requires { ⌜ (0 < length (now powers)) × ((low ≤ getD (now powers) 0 0) × (getD (now powers) 0 0 ≤ high)) ⌝ }
-    ensures { λ r. ⌜ (0 < r .count) × Ran low high (now (powers .entry)) (r .sum) (r .count) ⌝ }
+fn stretch(powers: &[u64], low: Power, high: Power) -> Run
+    requires { ⌜ (0 < length (now powers)) × ((low .0 ≤ getD (now powers) 0 0) × (getD (now powers) 0 0 ≤ high .0)) ⌝ }
+    ensures { λ r. ⌜ (0 < r .count) × Ran (low .0) (high .0) (now (powers .entry)) (r .sum) (r .count) ⌝ }
 {
+    // numbers from here on, as those of the series are
+    let low = low.0;
+    let high = high.0;
     let width = high - low;
     let mut sum = powers[0] - low;
     let mut i: usize = 1;
@@ -118,7 +122,7 @@ fn first_run(powers: &[u64], limits: &[u64], from: usize) -> Step
     requires { ⌜ (0 < length (now powers)) × (from ≤ length (now limits)) ⌝ }
     ensures { λ r. ⌜ Stepped (now (limits .entry)) (now (powers .entry)) (r .place) (r .count) (r .sum) ⌝ }
 {
-    let power = powers[0];
+    let power = Power(powers[0]);
     let place = descended(limits, climbed(limits, from, power), power);
     let run = stretch(powers, lower(limits, place), upper(limits, place));
     Step {

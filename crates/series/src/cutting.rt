@@ -1,7 +1,6 @@
 // A series cut at all limits of a direction at once.
 use crate::counting::counted;
-use arithmetic::whole::excess;
-use arithmetic::whole::least;
+use arithmetic::power::Power;
 use std::num::wrapping_add_u64;
 ghost use mathlib.Core.Path.{_≡_};
 ghost use mathlib.Core.Bool.{true};
@@ -27,20 +26,20 @@ pub(crate) fn no_sums() -> [u64; 32]
 }
 
 // The part of a power between two limits.
-fn slice(power: u64, low: u64, high: u64) -> u64
-    ensures { λ r. ⌜ r ≡ sliceOf low high power ⌝ }
+fn slice(power: Power, low: Power, high: Power) -> Power
+    ensures { λ r. ⌜ r .0 ≡ sliceOf (low .0) (high .0) (power .0) ⌝ }
 {
-    excess(least(power, high), low)
+    power.least(high).excess(low)
 }
 
 // The sum of these parts. It wraps where the powers alone pass a u64, which no quarter hour's do: a law says so.
-fn sliced(powers: &[u64], low: u64, high: u64) -> u64
-    ensures { λ r. ⌜ r ≡ slicedOf low high (now (powers .entry)) % 2 ^ 64 ⌝ }
+fn sliced(powers: &[u64], low: Power, high: Power) -> u64
+    ensures { λ r. ⌜ r ≡ slicedOf (low .0) (high .0) (now (powers .entry)) % 2 ^ 64 ⌝ }
 {
     let mut sum: u64 = 0;
     let mut i = 0;
     while i < powers.len() {
-        sum = wrapping_add_u64(sum, slice(powers[i], low, high));
+        sum = wrapping_add_u64(sum, slice(Power(powers[i]), low, high).0);
         i += 1;
     }
     sum
@@ -52,17 +51,17 @@ fn plain(powers: &[u64], limits: &[u64]) -> Pieces
     ensures { λ r. ⌜ r ≡ piecesOf (now (limits .entry)) (now (powers .entry)) ⌝ }
 {
     let mut sums = no_sums();
-    let mut low: u64 = 0;
+    let mut low = Power(0);
     let mut k: usize = 0;
     while k < limits.len() {
-        let high = limits[k];
+        let high = Power(limits[k]);
         sums[k] = sliced(powers, low, high);
         low = high;
         k += 1;
     }
     Pieces {
         sums: sums,
-        rest: sliced(powers, low, MOST),
+        rest: sliced(powers, low, Power(MOST)),
     }
 }
 

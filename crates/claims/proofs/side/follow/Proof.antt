@@ -57,17 +57,17 @@ mul-bounded-2 c = omega arith
 array-copy-out-bounded-2 : tie.Need-array-copy-out-bounded-2 Inv-loop μ-loop
 array-copy-out-bounded-2 c = omega arith
 
-mul-bounded-3 : tie.Need-mul-bounded-3 Inv-loop μ-loop
-mul-bounded-3 c = omega arith
+mul-t25 : tie.Need-mul-t25 Inv-loop μ-loop
+mul-t25 c = omega arith
 
-array-copy-out-bounded-3 : tie.Need-array-copy-out-bounded-3 Inv-loop μ-loop
-array-copy-out-bounded-3 c = omega arith
+array-copy-out-t28 : tie.Need-array-copy-out-t28 Inv-loop μ-loop
+array-copy-out-t28 c = omega arith
 
-mul-bounded-4 : tie.Need-mul-bounded-4 Inv-loop μ-loop
-mul-bounded-4 c = omega arith
+mul-t30 : tie.Need-mul-t30 Inv-loop μ-loop
+mul-t30 c = omega arith
 
-array-copy-out-bounded-4 : tie.Need-array-copy-out-bounded-4 Inv-loop μ-loop
-array-copy-out-bounded-4 c = omega arith
+array-copy-out-t33 : tie.Need-array-copy-out-t33 Inv-loop μ-loop
+array-copy-out-t33 c = omega arith
 
 bounded-requires : tie.Need-bounded-requires Inv-loop μ-loop
 bounded-requires c κs = tt
@@ -101,7 +101,7 @@ loop-again c =
     let fs = sfits-of (c .before .before .before .before .bounded-arg .given) in
     let fv = sfits-of (c .before .before .before .bounded-arg2 .given) in
     let b : c .bounded .result ≡ sampleWith sp vp o u =
-    rw (c .bounded .ensures, toZ-ofZ w32 sp fs, toZ-ofZ w32 vp fv, toZ-ofZ w64 o (sfits-of (c .before .before .bounded-arg3 .given)), toZ-ofZ w64 u (sfits-of (c .before .bounded-arg4 .given))) in (
+    rw (c .bounded .ensures, toZ-ofZ w32 sp fs, toZ-ofZ w32 vp fv, toZ-ofZ w64 o (sfits-of (c .before .before .t28 .given)), toZ-ofZ w64 u (sfits-of (c .before .t33 .given))) in (
       one-more (λ i. SFits w32 (getD (a .t2) i (pos 0)) × SFits w32 (getD (a .t3) i (pos 0))) (l .i) (l .inv .0) (fs, fv),
       λ ch eo eu.
           let e : c .bounded .result ≡ sampleAt (samplesAlong ch (take n (a .t2)) (take n (a .t3))) (l .i) sp = b ∙ rw (eo, eu) (sample-at ch (a .t2) (a .t3) n (l .i) enough h) in
@@ -137,10 +137,10 @@ follow-spec =
     array-copy-out-bounded
     mul-bounded-2
     array-copy-out-bounded-2
-    mul-bounded-3
-    array-copy-out-bounded-3
-    mul-bounded-4
-    array-copy-out-bounded-4
+    mul-t25
+    array-copy-out-t28
+    mul-t30
+    array-copy-out-t33
     bounded-requires
     mul-samples
     array-set-from-samples

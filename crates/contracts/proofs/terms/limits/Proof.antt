@@ -50,11 +50,12 @@ loop-less c = omega arith
 loop-again : tie.Need-loop-again Inv-loop μ-loop
 unfolding upperOf
 loop-again c =
-    let s = c .before .before .before .before .before in
-    let l = c .before .before .before .loop in
-    let raised = rw (c .award .ensures .0) at (c .award .ensures .1) in
+    let s = c .before .before .before .before .before .before in
+    let l = c .before .before .before .before .loop in
+    let awarded = c .before .award .ensures in
+    let raised = rw (awarded .0) at (awarded .1) in
     rw
-    (c .award .ensures .0) (
+    (awarded .0) (
       scanned-more upperOf upperOf 0 (s .args .t1) noSums (l .high) (l .out) (l .k) _ (omega (arith, sums-32, s .good)) (omega (arith, s .good)) (l .inv .0),
       omega (arith, raised),
     )

@@ -23,7 +23,7 @@ shared-slice-read-if1 : tie.Need-shared-slice-read-if1 Inv-loop μ-loop
 shared-slice-read-if1 c = omega arith
 
 returns : tie.Need-returns Inv-loop μ-loop
-returns c = omega (arith, getD-other (c .before .before .before .before .args .limits .now) (c .before .before .before .loop .place) 0 18446744073709551615 (omega arith))
+returns c = omega (arith, getD-other (c .before .before .before .before .before .args .limits .now) (c .before .before .before .before .loop .place) 0 18446744073709551615 (omega arith))
 
 add-place : tie.Need-add-place Inv-loop μ-loop
 add-place c = omega arith

@@ -10,7 +10,7 @@ use Rattle.series.proofs.counting.descended.Statement.{statement}
 use Rattle.series.proofs.counting.descended.Tie as tie
 
 abbrev Inv-loop : tie.InvT-loop
-Inv-loop limits from power place₀ place = (place ≤ length limits) × (power ≤ highAt limits place)
+Inv-loop limits from power place₀ place = (place ≤ length limits) × (power .0 ≤ highAt limits place)
 
 abbrev μ-loop : tie.MeasureT-loop
 μ-loop limits from power place₀ place = place
@@ -29,8 +29,8 @@ shared-slice-read-if1 c = omega arith
 
 returns : tie.Need-returns Inv-loop μ-loop
 returns c =
-    let l = c .before .before .before .loop in
-    record { within = omega arith; low = omega (arith, low-before (c .before .before .before .before .args .limits .now) (l .place) (omega arith)); high = l .inv .1 }
+    let l = c .before .before .before .before .loop in
+    record { within = omega arith; low = omega (arith, low-before (c .before .before .before .before .before .args .limits .now) (l .place) (omega arith)); high = l .inv .1 }
 
 sub-place : tie.Need-sub-place Inv-loop μ-loop
 sub-place c = omega arith
@@ -39,12 +39,12 @@ loop-less : tie.Need-loop-less Inv-loop μ-loop
 loop-less c = omega arith
 
 loop-again : tie.Need-loop-again Inv-loop μ-loop
-loop-again c = omega (arith, getD-other (c .before .before .before .before .args .limits .now) (c .before .before .before .loop .place - 1) 0 18446744073709551615 (omega arith))
+loop-again c = omega (arith, getD-other (c .before .before .before .before .before .args .limits .now) (c .before .before .before .before .loop .place - 1) 0 18446744073709551615 (omega arith))
 
 returns-2 : tie.Need-returns-2 Inv-loop μ-loop
 returns-2 c =
     let l = c .before .loop in
-    record { within = omega arith; low = low-first (c .before .before .args .limits .now) (l .place) (c .before .before .args .power) (omega arith); high = l .inv .1 }
+    record { within = omega arith; low = low-first (c .before .before .args .limits .now) (l .place) (c .before .before .args .power .0) (omega arith); high = l .inv .1 }
 
 pub descended-spec : {M : Type 1} → statement M
 descended-spec =

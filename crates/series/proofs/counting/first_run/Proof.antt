@@ -4,8 +4,8 @@ use borrow.Author.Needs.{needs}
 use Rattle.series.proofs.counting.first_run.Statement.{statement}
 use Rattle.series.proofs.counting.first_run.Tie as tie
 
-shared-slice-read-power : tie.Need-shared-slice-read-power
-shared-slice-read-power c = search needs
+shared-slice-read-t8 : tie.Need-shared-slice-read-t8
+shared-slice-read-t8 c = search needs
 
 climbed-requires : tie.Need-climbed-requires
 climbed-requires c κs = search needs
@@ -32,7 +32,7 @@ pub first-run-spec : {M : Type 1} → statement M
 first-run-spec =
     tie.close
     (tie.spec
-    shared-slice-read-power
+    shared-slice-read-t8
     climbed-requires
     descended-requires
     lower-requires

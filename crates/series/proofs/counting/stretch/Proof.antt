@@ -16,7 +16,7 @@ abbrev μ-loop : tie.MeasureT-loop
 μ-loop powers low high width sum₀ i₀ sum i = length powers - i
 
 -- the limits of a run
-bounds : (c : tie.Start Inv-loop μ-loop) → c .args .low ≤ c .args .high
+bounds : (c : tie.Start Inv-loop μ-loop) → c .args .low .0 ≤ c .args .high .0
 bounds c = omega (arith, c .pre)
 
 -- where the function began, seen from there
@@ -25,13 +25,13 @@ start c = c .before .before .before .before .before .before .before .before
 
 -- the first of two is taken
 once : (c : tie.After-wrapping-add-u64 Inv-loop μ-loop) → let a = start c .args in let l = c .before .before .before .before .before .loop in
-    Ran (a .low) (a .high) (a .powers .now) (c .wrapping-add-u64 .result) (l .i + 1)
+    Ran (a .low .0) (a .high .0) (a .powers .now) (c .wrapping-add-u64 .result) (l .i + 1)
 once c =
     let s = start c in
     let a = s .args in
     let l = c .before .before .before .before .before .loop in
-    ran-lifted (a .low) (a .high) (a .powers .now) (l .sum) (l .i) (c .before .before .wrapping-sub-u64 .result) _ _ (omega (arith, c .before .before .before .before .loop-test .taken)) (bounds s)
-    (s .fits .high .fits) (c .before .before .wrapping-sub-u64 .ensures) (c .before .if1 .left) (c .wrapping-add-u64 .ensures) refl (l .inv .1)
+    ran-lifted (a .low .0) (a .high .0) (a .powers .now) (l .sum) (l .i) (c .before .before .wrapping-sub-u64 .result) _ _ (omega (arith, c .before .before .before .before .loop-test .taken))
+    (bounds s) (omega (arith, s .good)) (c .before .before .wrapping-sub-u64 .ensures) (c .before .if1 .left) (c .wrapping-add-u64 .ensures) refl (l .inv .1)
 
 sub-width : tie.Need-sub-width Inv-loop μ-loop
 sub-width c = bounds (c .before)
@@ -43,7 +43,7 @@ sub-sum : tie.Need-sub-sum Inv-loop μ-loop
 sub-sum c = omega arith
 
 loop-holds : tie.Need-loop-holds Inv-loop μ-loop
-loop-holds c = let a = c .before .before .args in (omega arith, ran-first (a .low) (a .high) (a .powers .now) (omega arith) (omega arith) (omega arith) (c .shared-slice-known2 .given 0 .fits))
+loop-holds c = let a = c .before .before .args in (omega arith, ran-first (a .low .0) (a .high .0) (a .powers .now) (omega arith) (omega arith) (omega arith) (c .shared-slice-known2 .given 0 .fits))
 
 add-loop : tie.Need-add-loop Inv-loop μ-loop
 add-loop c = omega arith
@@ -76,8 +76,8 @@ shared-slice-read-wrapping-sub-u64-2 c = omega arith
 wrapping-sub-u64-requires-2 : tie.Need-wrapping-sub-u64-requires-2 Inv-loop μ-loop
 wrapping-sub-u64-requires-2 c κs = tt
 
-add-t18 : tie.Need-add-t18 Inv-loop μ-loop
-add-t18 c = omega arith
+add-t20 : tie.Need-add-t20 Inv-loop μ-loop
+add-t20 c = omega arith
 
 returns-2 : tie.Need-returns-2 Inv-loop μ-loop
 returns-2 c = (omega arith, once (c .before .before .before))
@@ -98,8 +98,8 @@ loop-again c =
     let a = s .args in
     let l = first .before .before .before .before .before .loop in (
       omega arith,
-      ran-lifted (a .low) (a .high) (a .powers .now) (first .wrapping-add-u64 .result) (l .i + 1) (c .before .before .wrapping-sub-u642 .result) _ _
-          (first .before .before .before .before .loop-test .taken) (bounds s) (s .fits .high .fits) (c .before .before .wrapping-sub-u642 .ensures) (c .before .if2 .left)
+      ran-lifted (a .low .0) (a .high .0) (a .powers .now) (first .wrapping-add-u64 .result) (l .i + 1) (c .before .before .wrapping-sub-u642 .result) _ _
+          (first .before .before .before .before .loop-test .taken) (bounds s) (omega (arith, s .good)) (c .before .before .wrapping-sub-u642 .ensures) (c .before .if2 .left)
           (c .wrapping-add-u642 .ensures) (omega arith) (once first),
     )
 
@@ -126,7 +126,7 @@ stretch-spec =
     mul-wrapping-sub-u64-2
     shared-slice-read-wrapping-sub-u64-2
     wrapping-sub-u64-requires-2
-    add-t18
+    add-t20
     returns-2
     wrapping-add-u64-requires-2
     add-i

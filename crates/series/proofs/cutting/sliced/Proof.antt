@@ -10,19 +10,19 @@ use Rattle.series.proofs.cutting.sliced.Statement.{statement}
 use Rattle.series.proofs.cutting.sliced.Tie as tie
 
 abbrev Inv-loop : tie.InvT-loop
-Inv-loop powers low high sum₀ i₀ sum i = Adding (length powers) (λ k. slicedOf low high (drop k powers)) sum i
+Inv-loop powers low high sum₀ i₀ sum i = Adding (length powers) (λ k. slicedOf (low .0) (high .0) (drop k powers)) sum i
 
 abbrev μ-loop : tie.MeasureT-loop
 μ-loop powers low high sum₀ i₀ sum i = length powers - i
 
 loop-holds : tie.Need-loop-holds Inv-loop μ-loop
-loop-holds c = adding-none (length (c .before .args .powers .now)) (λ k. slicedOf (c .before .args .low) (c .before .args .high) (drop k (c .before .args .powers .now)))
+loop-holds c = adding-none (length (c .before .args .powers .now)) (λ k. slicedOf (c .before .args .low .0) (c .before .args .high .0) (drop k (c .before .args .powers .now)))
 
-mul-slice : tie.Need-mul-slice Inv-loop μ-loop
-mul-slice c = omega arith
+mul-t6 : tie.Need-mul-t6 Inv-loop μ-loop
+mul-t6 c = omega arith
 
-shared-slice-read-slice : tie.Need-shared-slice-read-slice Inv-loop μ-loop
-shared-slice-read-slice c = omega arith
+shared-slice-read-t10 : tie.Need-shared-slice-read-t10 Inv-loop μ-loop
+shared-slice-read-t10 c = omega arith
 
 slice-requires : tie.Need-slice-requires Inv-loop μ-loop
 slice-requires c κs = search needs
@@ -40,16 +40,16 @@ loop-again : tie.Need-loop-again Inv-loop μ-loop
 loop-again c =
     let a = c .before .before .before .before .before .before .args in
     let l = c .before .before .before .before .loop in
-    let f = sliceOf (a .low) (a .high) in
-    adding-more (length (a .powers .now)) (λ k. slicedOf (a .low) (a .high) (drop k (a .powers .now))) (l .sum) (l .i) (f (getD (a .powers .now) (l .i) 0)) _
+    let f = sliceOf (a .low .0) (a .high .0) in
+    adding-more (length (a .powers .now)) (λ k. slicedOf (a .low .0) (a .high .0) (drop k (a .powers .now))) (l .sum) (l .i) (f (getD (a .powers .now) (l .i) 0)) _
     (omega arith) (over-drop f (a .powers .now) (l .i) (omega arith)) (rw (← c .before .slice .ensures) (c .wrapping-add-u64 .ensures)) (l .inv)
 
 returns : tie.Need-returns Inv-loop μ-loop
 returns c =
     let a = c .before .before .before .args in
     let l = c .before .loop in
-    adding-all (length (a .powers .now)) (λ k. slicedOf (a .low) (a .high) (drop k (a .powers .now))) (l .sum) (l .i)
-    (omega arith) (over-none (sliceOf (a .low) (a .high)) (a .powers .now)) (l .inv)
+    adding-all (length (a .powers .now)) (λ k. slicedOf (a .low .0) (a .high .0) (drop k (a .powers .now))) (l .sum) (l .i)
+    (omega arith) (over-none (sliceOf (a .low .0) (a .high .0)) (a .powers .now)) (l .inv)
 
 pub sliced-spec : {M : Type 1} → statement M
 sliced-spec =
@@ -58,8 +58,8 @@ sliced-spec =
     Inv-loop
     μ-loop
     loop-holds
-    mul-slice
-    shared-slice-read-slice
+    mul-t6
+    shared-slice-read-t10
     slice-requires
     wrapping-add-u64-requires
     add-i
