@@ -1,6 +1,7 @@
 -- No second answer fits a call of `contracts`.
 use mathlib.Core.Path.{_∙_, sym}
 use Rattle.binding.specs.Single.{Single}
+use Rattle.contracts.proofs.book.no_contract.Reads as no-contract
 use Rattle.contracts.proofs.book.Book.contracts.Reads as contracts
 use Rattle.contracts.proofs.book.Book.count.Reads as count
 use Rattle.contracts.proofs.books.Books.new.Reads as new
@@ -11,6 +12,9 @@ use Rattle.contracts.proofs.identifier.well_formed.Reads as well-formed
 use Rattle.contracts.proofs.book.Book.held.Reads as held
 use Rattle.contracts.proofs.book.Book.terms.Reads as terms
 use Rattle.contracts.proofs.terms.limits.Reads as limits
+
+no-contract-single : Single no-contract.Post
+no-contract-single κs a r r′ x x′ p q = p ∙ sym q
 
 contracts-single : Single contracts.Post
 contracts-single κs a r r′ x x′ p q = p ∙ sym q

@@ -179,9 +179,9 @@ fn ran(run: Run, at: u64, line: &[u8]) -> Run {
     }
 }
 
-fn show_sheets(quarter: u8, books: Books, sheets: Sheets) {
+fn show_sheets(quarter: u8, sheets: Sheets) {
     let mut out = answer::dotted();
-    let printed = print_quarter(&mut out, quarter, books, sheets);
+    let printed = print_quarter(&mut out, quarter, sheets);
     answer::showed(printed, &out);
 }
 
@@ -190,7 +190,7 @@ fn take(run: Run, at: u64) -> Held {
     let refusal = answer.refusal;
     answer::answered(at, refusal);
     let sheets = answer.sheets;
-    show_sheets(answer.quarter, run.books(), sheets);
+    show_sheets(answer.quarter, sheets);
     let after = answer.run;
     Held {
         run: after,
@@ -229,30 +229,30 @@ fn printed_line(line: &[u8], out: &mut [u8]) -> Printed {
     }
 }
 
-fn printed(books: Books, sheets: Sheets, line: &[u8], out: &mut [u8]) -> Printed {
+fn printed(sheets: Sheets, line: &[u8], out: &mut [u8]) -> Printed {
     if script::letter(line, 0) != b'Q' {
         return printed_line(line, out);
     }
-    print_quarter(out, script::byte(line, 3), books, sheets)
+    print_quarter(out, script::byte(line, 3), sheets)
 }
 
 // The length of the text of a printing call, which is printed where it has room.
-fn text_length(books: Books, sheets: Sheets, line: &[u8]) -> u64 {
+fn text_length(sheets: Sheets, line: &[u8]) -> u64 {
     let mut whole = answer::dotted();
-    answer::length_of(printed(books, sheets, line, &mut whole))
+    answer::length_of(printed(sheets, line, &mut whole))
 }
 
 // A printing call, and the whole buffer that it was lent.
-fn print_into(books: Books, sheets: Sheets, at: u64, line: &[u8], lent: &mut [u8]) {
-    let printed = printed(books, sheets, line, lent);
+fn print_into(sheets: Sheets, at: u64, line: &[u8], lent: &mut [u8]) {
+    let printed = printed(sheets, line, lent);
     answer::showed_whole(at, printed, lent);
 }
 
 // The length of the text may decide how much is lent.
-fn print(books: Books, sheets: Sheets, at: u64, line: &[u8]) {
-    let n = script::lent(line, text_length(books, sheets, line));
+fn print(sheets: Sheets, at: u64, line: &[u8]) {
+    let n = script::lent(line, text_length(sheets, line));
     let mut buf = answer::dotted();
-    print_into(books, sheets, at, line, &mut buf[..n]);
+    print_into(sheets, at, line, &mut buf[..n]);
 }
 
 // The call of a line, which is the `at`-th of the script.
@@ -268,7 +268,7 @@ fn called(held: Held, at: u64, line: &[u8]) -> Held {
                 sheets: sheets,
             };
         }
-        _ => print(run.books(), sheets, at, line),
+        _ => print(sheets, at, line),
     }
     held
 }

@@ -18,17 +18,18 @@ use Rattle.series.specs.Scan.{each}
 use Rattle.vocabulary.specs.declared.direction.Direction.{Direction}
 use Rattle.vocabulary.specs.declared.direction.Direction.the-variants.{Positive, Negative}
 use Rattle.contracts.specs.Book.{priceInRange}
-use Rattle.quarter.specs.declared.sheet.Line.{Line}
+use Rattle.quarter.specs.declared.sheet.Figures.{Figures}
 use Rattle.contracts.specs.Terms.{noTerms}
-use Rattle.quarter.specs.Blank.{noLine, noLines}
-use Rattle.claims.specs.Claims.{energiesOf}
-use Rattle.quarter.specs.Quarter.{sheetOf, sheetBy}
+use Rattle.quarter.specs.Blank.{noFigures}
+use Rattle.quarter.specs.Quarter.{figuresIn}
+use Rattle.quarter.proofs.LineLaws.{blankFigures, figuresHeld, sheet-figures}
 use Rattle.quarter.proofs.HandedOut.{lines-sized}
 use Rattle.settlement.specs.Account.{heldTotal}
 use Rattle.settlement.proofs.Money.{Near, near-sum, near-fits, All, none, more, Good, lines-good}
-use Rattle.meaning.specs.Given.{Deal, Given, dealsIn, secondsIn, dealTerms, powersIn, termsIn, linesIn, linesUpTo, sumOver, feeIn, penaltyIn}
+use Rattle.meaning.specs.Given.{Deal, Given, dealsIn, secondsIn, dealTerms, samplesIn, powersIn, termsIn, linesIn, linesUpTo, sumOver, feeIn, penaltyIn}
 use Rattle.meaning.specs.Endings.{FairDeal, Each, of-none, of-more, Proper}
-use Rattle.meaning.proofs.Figures.{heldSheet, few-terms, held-is}
+use Rattle.meaning.proofs.Figures.{keptIn, heldSheet, few-terms, fair-deals, held-figures}
+use Rattle.meaning.proofs.Deals.{terms-kept}
 
 zero-near : Near 0 (pos 0)
 unfolding up down
@@ -36,55 +37,62 @@ zero-near = record { above = omega arith; below = omega arith }
 
 -- ---- over a sheet's 32 places, of which those without a contract count nothing
 
-module _ (amount : Line → Cents) (blank : amount noLine .0 ≡ pos 0) where
-  pub sum-join : (a b : List Line) → sumOver amount (a ++ b) ≡ sumOver amount a +ℤ sumOver amount b
+-- the figures on a sheet's lines, and on both
+abbrev linesOn : Direction → Given → ℕ → List Figures
+linesOn d g q = each figuresIn (heldSheet d g q .lines)
+
+abbrev pub quarterLines : Given → ℕ → List Figures
+quarterLines g q = linesOn Positive g q ++ linesOn Negative g q
+
+module _ (amount : Figures → Cents) (blank : amount noFigures .0 ≡ pos 0) where
+  pub sum-join : (a b : List Figures) → sumOver amount (a ++ b) ≡ sumOver amount a +ℤ sumOver amount b
   unfolding sumOver
   sum-join [] b = sym (none-plus (sumOver amount b))
   sum-join (l ∷ a) b = rw (sum-join a b) (sym (plus-assoc (amount l .0) (sumOver amount a) (sumOver amount b)))
 
-  sum-blank : (n k : ℕ) → sumOver amount (drop k (replicate n noLine)) ≡ pos 0
+  sum-blank : (n k : ℕ) → sumOver amount (drop k (replicate n noFigures)) ≡ pos 0
   unfolding sumOver
   sum-blank zero zero = refl
   sum-blank zero (suc k) = refl
   sum-blank (suc n) zero = rw (blank, sum-blank n zero) (none-plus (pos 0))
   sum-blank (suc n) (suc k) = sum-blank n k
 
-  sum-sheet : (d : Direction) (g : Given) → Proper g → (q : ℕ) → sumOver amount (heldSheet d g q .lines) ≡ sumOver amount (linesIn d g q)
-  unfolding noLines
+  sum-sheet : (d : Direction) (g : Given) → Proper g → (q : ℕ) → sumOver amount (each figuresIn (heldSheet d g q .lines)) ≡ sumOver amount (linesIn d g q)
+  unfolding blankFigures
   sum-sheet d g p q =
-      ap (sumOver amount) (held-is g p q d .lines)
-      ∙ sum-join (linesIn d g q) (drop (length (dealsIn d g)) noLines)
+      ap (sumOver amount) (held-figures g p q d)
+      ∙ sum-join (linesIn d g q) (drop (length (dealsIn d g)) blankFigures)
       ∙ ap (λ (z : ℤ). sumOver amount (linesIn d g q) +ℤ z) (sum-blank 32 (length (dealsIn d g)))
       ∙ plus-none (sumOver amount (linesIn d g q))
 
   -- with quarter hour q more
   pub sum-quarter : (g : Given) → Proper g → (q : ℕ)
-      → sumOver amount (linesUpTo g q) +ℤ sumOver amount (heldSheet Positive g q .lines ++ heldSheet Negative g q .lines) ≡ sumOver amount (linesUpTo g (suc q))
+      → sumOver amount (linesUpTo g q) +ℤ sumOver amount (quarterLines g q) ≡ sumOver amount (linesUpTo g (suc q))
   unfolding linesUpTo
   sum-quarter g p q =
       rw (
-        sum-join (heldSheet Positive g q .lines) (heldSheet Negative g q .lines),
+        sum-join (linesOn Positive g q) (linesOn Negative g q),
         sum-sheet Positive g p q,
         sum-sheet Negative g p q,
         sum-join (linesUpTo g q) (linesIn Positive g q ++ linesIn Negative g q),
         sum-join (linesIn Positive g q) (linesIn Negative g q),
       )
 
-pub no-fee : noLine .fee .0 ≡ pos 0
-unfolding noLine
+pub no-fee : noFigures .fee .0 ≡ pos 0
+unfolding noFigures
 no-fee = refl
 
-pub no-penalty : noLine .penalty .0 ≡ pos 0
-unfolding noLine
+pub no-penalty : noFigures .penalty .0 ≡ pos 0
+unfolding noFigures
 no-penalty = refl
 
 -- ---- amounts within b of 0, added to a sum within k of 0: while all stays in range, what is held is the true sum
 
-module _ (amount : Line → Cents) (b : ℕ) where
-  abbrev Small : Line → Type 0
+module _ (amount : Figures → Cents) (b : ℕ) where
+  abbrev Small : Figures → Type 0
   Small l = Near b (amount l .0)
 
-  total-exact : (so : Cents) (k : ℕ) (ls : List Line) → Near k (so .0) → All Small ls → k + length ls * b < 2 ^ 63 → heldTotal amount so ls .0 ≡ so .0 +ℤ sumOver amount ls
+  total-exact : (so : Cents) (k : ℕ) (ls : List Figures) → Near k (so .0) → All Small ls → k + length ls * b < 2 ^ 63 → heldTotal amount so ls .0 ≡ so .0 +ℤ sumOver amount ls
   unfolding heldTotal sumOver plusOf
   total-exact so k [] n all h = sym (plus-none (so .0))
   total-exact so k (l ∷ ls) n (more p all) h =
@@ -94,7 +102,7 @@ module _ (amount : Line → Cents) (b : ℕ) where
       total-exact (record { 0 = heldCents (so .0 +ℤ amount l .0) }) (k + b) ls (rw e s) all (omega (arith, suc-mul (length ls) b))
       ∙ rw e (plus-assoc (so .0) (amount l .0) (sumOver amount ls))
 
-  total-near : (ls : List Line) → All Small ls → Near (length ls * b) (sumOver amount ls)
+  total-near : (ls : List Figures) → All Small ls → Near (length ls * b) (sumOver amount ls)
   unfolding sumOver
   total-near [] all = rw (suc-zero b) zero-near
     where
@@ -117,58 +125,54 @@ prices of-none (suc k) = no-price
 prices (of-more f fs) zero = f .priced
 prices (of-more f fs) (suc k) = prices fs k
 
-fair-deals : (g : Given) → Proper g → (d : Direction) → Each FairDeal (dealsIn d g)
-fair-deals g p Positive = p .positives .deals
-fair-deals g p Negative = p .negatives .deals
-
-all-join : {P : Line → Type 0} {a b : List Line} → All P a → All P b → All P (a ++ b)
+all-join : {P : Figures → Type 0} {a b : List Figures} → All P a → All P b → All P (a ++ b)
 all-join none q = q
 all-join (more p ps) q = more p (all-join ps q)
 
-abbrev pub quarterLines : Given → ℕ → List Line
-quarterLines g q = heldSheet Positive g q .lines ++ heldSheet Negative g q .lines
-
 module _ (g : Given) (p : Proper g) (q : ℕ) where
-  sheet-good : (d : Direction) → All Good (heldSheet d g q .lines)
-  unfolding heldSheet sheetOf sheetBy energiesOf
-  sheet-good d = lines-good (secondsIn g) (powersIn d g q) (termsIn d g) (few-terms g p q d) (prices (fair-deals g p d))
+  lines-held : (d : Direction) → linesOn d g q ≡ figuresHeld (secondsIn g) (powersIn d g q) (termsIn d g)
+  unfolding heldSheet
+  lines-held d =
+      sheet-figures d (secondsIn g) (keptIn d g) (samplesIn g q) ∙ ap (figuresHeld (secondsIn g) (powersIn d g q)) (terms-kept (dealsIn d g))
 
-  sheet-long : (d : Direction) → length (heldSheet d g q .lines) ≡ 32
-  unfolding heldSheet sheetOf sheetBy energiesOf
-  sheet-long d = lines-sized (secondsIn g) (powersIn d g q) (termsIn d g) (few-terms g p q d)
+  sheet-good : (d : Direction) → All Good (linesOn d g q)
+  sheet-good d = rw (lines-held d) (lines-good (secondsIn g) (powersIn d g q) (termsIn d g) (few-terms g p q d) (prices (fair-deals g p d)))
+
+  sheet-long : (d : Direction) → length (linesOn d g q) ≡ 32
+  sheet-long d = rw (lines-held d) (lines-sized (secondsIn g) (powersIn d g q) (termsIn d g) (few-terms g p q d))
 
   quarter-good : All Good (quarterLines g q)
   quarter-good = all-join (sheet-good Positive) (sheet-good Negative)
 
   quarter-long : length (quarterLines g q) ≡ 64
   quarter-long =
-      length-append (heldSheet Positive g q .lines) (heldSheet Negative g q .lines) ∙ rw (sheet-long Positive, sheet-long Negative)
+      length-append (linesOn Positive g q) (linesOn Negative g q) ∙ rw (sheet-long Positive, sheet-long Negative)
 
-all-fees : {ls : List Line} → All Good ls → All (Small feeIn (2 ^ 46)) ls
+all-fees : {ls : List Figures} → All Good ls → All (Small feeIn (2 ^ 46)) ls
 all-fees none = none
 all-fees (more p ps) = more (p .fee) (all-fees ps)
 
-all-penalties : {ls : List Line} → All Good ls → All (Small penaltyIn (2 ^ 46)) ls
+all-penalties : {ls : List Figures} → All Good ls → All (Small penaltyIn (2 ^ 46)) ls
 all-penalties none = none
 all-penalties (more p ps) = more (p .penalty) (all-penalties ps)
 
 -- ---- a sum as a run keeps it over the first t quarter hours: the true sum, and so near to 0 that it was never held at an end of its range
 
-pub record KeepsSum (amount : Line → Cents) (g : Given) (t : ℕ) (sum : Cents) : Type 0 where
+pub record KeepsSum (amount : Figures → Cents) (g : Given) (t : ℕ) (sum : Cents) : Type 0 where
   pub is : sum .0 ≡ sumOver amount (linesUpTo g t)
   pub near : Near (t * 2 ^ 52) (sum .0)
 
-pub sum-none : (amount : Line → Cents) (g : Given) → KeepsSum amount g 0 (record { 0 = pos 0 })
+pub sum-none : (amount : Figures → Cents) (g : Given) → KeepsSum amount g 0 (record { 0 = pos 0 })
 unfolding linesUpTo sumOver
 sum-none amount g = record { is = refl; near = zero-near }
 
 -- where none was taken yet, the contracts don't matter
-pub sum-before : (amount : Line → Cents) (g h : Given) (t : ℕ) (sum : Cents) → t ≡ 0 → KeepsSum amount g t sum → KeepsSum amount h t sum
+pub sum-before : (amount : Figures → Cents) (g h : Given) (t : ℕ) (sum : Cents) → t ≡ 0 → KeepsSum amount g t sum → KeepsSum amount h t sum
 unfolding linesUpTo
 sum-before amount g h zero sum e s = record { is = s .is; near = s .near }
 sum-before amount g h (suc t) sum e s = absurd (omega arith)
 
-module _ (amount : Line → Cents) (blank : amount noLine .0 ≡ pos 0) (g : Given) (p : Proper g) (t : ℕ) (sum : Cents) (k : KeepsSum amount g t sum) (few : t < 100)
+module _ (amount : Figures → Cents) (blank : amount noFigures .0 ≡ pos 0) (g : Given) (p : Proper g) (t : ℕ) (sum : Cents) (k : KeepsSum amount g t sum) (few : t < 100)
     (small : All (Small amount (2 ^ 46)) (quarterLines g t)) where
   exact : heldTotal amount sum (quarterLines g t) .0 ≡ sum .0 +ℤ sumOver amount (quarterLines g t)
   exact = total-exact amount (2 ^ 46) sum (t * 2 ^ 52) (quarterLines g t) (k .near) small (omega (arith, quarter-long g p t))

@@ -9,9 +9,8 @@ use Rattle.arithmetic.specs.declared.energy.Kwh.{Kwh}
 use Rattle.arithmetic.specs.declared.money.Cents.{Cents}
 use Rattle.vocabulary.specs.declared.interval.Interval.the-variants.{Four}
 use Rattle.contracts.specs.declared.book.Awarded.{Awarded}
-use Rattle.contracts.specs.declared.books.Books.{Books}
 use Rattle.quarter.specs.declared.sheet.Pool.{Pool}
-use Rattle.quarter.specs.declared.sheet.Line.{Line}
+use Rattle.quarter.specs.declared.sheet.Figures.{Figures}
 use Rattle.quarter.specs.declared.sheet.Sheet.{Sheet}
 use Rattle.vocabulary.specs.declared.refusal.Refusal.the-variants.{NoEnd}
 
@@ -27,8 +26,8 @@ a1 = record { identifier = 65 ∷ 49 ∷ []; length = 2; award = 6000; price = p
 abbrev a2 : Awarded
 a2 = record { identifier = 65 ∷ 50 ∷ []; length = 2; award = 6000; price = pos 8000 }
 
-abbrev lineOf : ℕ → ℕ → ℕ → ℕ → ℕ → ℕ → ℕ → ℕ → ℕ → Line
-lineOf so is ak mi zu un ab fee penalty =
+abbrev figuresOf : ℕ → ℕ → ℕ → ℕ → ℕ → ℕ → ℕ → ℕ → ℕ → Figures
+figuresOf so is ak mi zu un ab fee penalty =
     record { setpoint = kwh so; actual = kwh is; acceptance = kwh ak; shortfall = kwh mi; share = kwh zu; «under_delivery» = kwh un; billed = kwh ab; fee = cents fee; penalty = cents penalty }
 
 abbrev poolOf : ℕ → ℕ → ℕ → ℕ → ℕ → ℕ → ℕ → ℕ → Pool
@@ -37,19 +36,23 @@ poolOf so is ak me mi zu un ab =
 
 abbrev positive : Sheet
 positive =
-    record { pool = poolOf 2500 2489 2444 44 56 44 0 2488; lines = lineOf 1500 1500 1500 0 0 0 1500 7500 0 ∷ lineOf 1000 989 944 56 44 0 988 7904 0 ∷ []; count = 2 }
+    record {
+      pool = poolOf 2500 2489 2444 44 56 44 0 2488;
+      lines =
+          record { contract = a1; figures = figuresOf 1500 1500 1500 0 0 0 1500 7500 0 }
+          ∷ record { contract = a2; figures = figuresOf 1000 989 944 56 44 0 988 7904 0 }
+          ∷ [];
+      count = 2;
+    }
 
 abbrev negative : Sheet
 negative = record { pool = poolOf 0 0 0 0 0 0 0 0; lines = []; count = 0 }
-
-abbrev books : Books
-books = record { positive = record { contracts = a1 ∷ a2 ∷ []; count = 2 }; negative = record { contracts = []; count = 0 } }
 
 pub listing-head : headText (record { year = 2017; month = 2; day = 20 }) Four 5000 ≡ 86 ∷ 9 ∷ 49 ∷ 9 ∷ 50 ∷ 48 ∷ 49 ∷ 55 ∷ 45 ∷ 48 ∷ 50 ∷ 45 ∷ 50 ∷ 48 ∷ 9 ∷ 52 ∷ 9 ∷ 53 ∷ 48 ∷ 48 ∷ 48 ∷ 10 ∷ []
 unfolding headText lineText tabbed dateText fourDigits twoDigits digits digitsIn
 listing-head = refl
 
-pub listing-quarter : quarterText 0 books (record { positive = positive; negative = negative })
+pub listing-quarter : quarterText 0 (record { positive = positive; negative = negative })
     ≡ 81 ∷ 9 ∷ 48 ∷ 9 ∷ 80 ∷ 9 ∷ 50 ∷ 53 ∷ 48 ∷ 48 ∷ 9 ∷ 50 ∷ 52 ∷ 56 ∷ 57 ∷ 9 ∷ 50 ∷ 52 ∷ 52 ∷ 52 ∷ 9 ∷ 52 ∷ 52 ∷ 9 ∷ 53 ∷ 54 ∷ 9 ∷ 52 ∷ 52 ∷ 9 ∷ 48 ∷ 9
     ∷ 50 ∷ 52 ∷ 56 ∷ 56 ∷ 10 ∷ 75 ∷ 9 ∷ 48 ∷ 9 ∷ 80 ∷ 9 ∷ 65 ∷ 49 ∷ 9 ∷ 49 ∷ 53 ∷ 48 ∷ 48 ∷ 9 ∷ 49 ∷ 53 ∷ 48 ∷ 48 ∷ 9 ∷ 49 ∷ 53 ∷ 48 ∷ 48 ∷ 9 ∷ 48
     ∷ 9 ∷ 48 ∷ 9 ∷ 48 ∷ 9 ∷ 49 ∷ 53 ∷ 48 ∷ 48 ∷ 9 ∷ 55 ∷ 53 ∷ 48 ∷ 48 ∷ 9 ∷ 48 ∷ 10 ∷ 75 ∷ 9 ∷ 48 ∷ 9 ∷ 80 ∷ 9 ∷ 65 ∷ 50 ∷ 9 ∷ 49 ∷ 48 ∷ 48 ∷ 48 ∷ 9

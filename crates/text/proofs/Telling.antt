@@ -66,4 +66,4 @@ module _ (desk : Desk) {stage : Stage} (at : desk .stage ≡ stage) where
 pub waits : (run : Run) → 0 < roomOf run → quarterTurn run ≡ quiet (deskAt Open run)
 unfolding quarterTurn takenOf
 waits run h =
-    ap (λ (x : Refusal). cond (accepted x) (record { desk = deskAt Open (takenOf run .run); text = takenText run (takenOf run) }) (quiet (deskAt Open run))) (not-full run h)
+    ap (λ (x : Refusal). cond (accepted x) (record { desk = deskAt Open (takenOf run .run); text = takenText (takenOf run) }) (quiet (deskAt Open run))) (not-full run h)

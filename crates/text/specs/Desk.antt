@@ -69,13 +69,13 @@ contractTurn desk number contract identifier =
     (quiet (deskAt Open (contractedOf (desk .run) contract identifier .run)))
 
 -- Q and K, "printed when the last sample is in": with the contracts that the run had, and what was taken from it
-unfoldable pub takenText : Run → Taken → List ℕ
-takenText run taken = quarterText (taken .quarter) (run .books) (taken .sheets)
+unfoldable pub takenText : Taken → List ℕ
+takenText taken = quarterText (taken .quarter) (taken .sheets)
 
 unfoldable pub quarterTurn : Run → Turn
 quarterTurn run =
     cond (accepted (takenOf run .refusal))
-    (record { desk = deskAt Open (takenOf run .run); text = takenText run (takenOf run) })
+    (record { desk = deskAt Open (takenOf run .run); text = takenText (takenOf run) })
     (quiet (deskAt Open run))
 
 unfoldable pub sampleTurn : Desk → ℕ → Sample → Turn

@@ -58,15 +58,14 @@ fn answer(before: Desk, after: Desk, printed: Printed) -> Told
     }
 }
 
-// The lines of a quarter hour that was taken from a run.
-fn print_taken(run: Run, taken: Taken, out: &mut [u8]) -> Printed
-    ensures answer { λ r. ⌜ r ≡ printAnswer (now (out .entry)) (takenText run taken) ⌝ }
-    ensures bytes { λ _. ⌜ now (out .exit) ≡ printInto (now (out .entry)) (takenText run taken) ⌝ }
-    ensures room { λ _. ⌜ length (takenText run taken) ≤ bufferLength ⌝ }
+// The lines of a quarter hour that was taken.
+fn print_taken(taken: Taken, out: &mut [u8]) -> Printed
+    ensures answer { λ r. ⌜ r ≡ printAnswer (now (out .entry)) (takenText taken) ⌝ }
+    ensures bytes { λ _. ⌜ now (out .exit) ≡ printInto (now (out .entry)) (takenText taken) ⌝ }
+    ensures room { λ _. ⌜ length (takenText taken) ≤ bufferLength ⌝ }
 {
-    let books = run.books();
     let sheets = taken.sheets;
-    print_quarter(out, taken.quarter, books, sheets)
+    print_quarter(out, taken.quarter, sheets)
 }
 
 impl Desk {
@@ -168,7 +167,7 @@ impl Desk {
             run: next,
             stage: Stage::Open,
         };
-        let printed = print_taken(run, taken, out);
+        let printed = print_taken(taken, out);
         answer(self, after, printed)
     }
 

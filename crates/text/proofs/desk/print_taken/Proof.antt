@@ -4,9 +4,6 @@ use borrow.Author.Needs.{needs}
 use Rattle.text.proofs.desk.print_taken.Statement.{statement}
 use Rattle.text.proofs.desk.print_taken.Tie as tie
 
-books-requires : tie.Need-books-requires
-books-requires c κs = search needs
-
 print-quarter-requires : tie.Need-print-quarter-requires
 print-quarter-requires c κs = search needs
 
@@ -15,15 +12,12 @@ same-length c = search needs
 
 returns : tie.Need-returns
 unfolding takenText
-returns c =
-    let printed = c .before .before in
-    rw (printed .before .before .before .books .ensures) at (printed .print-quarter .ensures)
+returns c = c .before .before .print-quarter .ensures
 
 pub print-taken-spec : {M : Type 1} → statement M
 print-taken-spec =
     tie.close
     (tie.spec
-    books-requires
     print-quarter-requires
     same-length
     returns)
