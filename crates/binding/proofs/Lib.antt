@@ -9,6 +9,7 @@ mod Shares
 mod Contracts
 mod Claims
 mod Quarter
+mod Records
 mod Settlement
 mod Print
 mod Fields

@@ -20,7 +20,8 @@ use Rattle.samples.proofs.Meaning.{begins}
 use Rattle.samples.proofs.StretchFed.{Quietly, one, more}
 use Rattle.settlement.specs.declared.run.Run.{Run}
 use Rattle.settlement.specs.Run.{sampled, sampledOf}
-use Rattle.settlement.specs.Many.{roomOf, samplesIn}
+use Rattle.records.specs.Tape.{samplesIn}
+use Rattle.settlement.specs.Many.{roomOf}
 use Rattle.settlement.proofs.Many as many
 use Rattle.settlement.proofs.Many.{Ranged, withAll, room-left, none-refused, all-taken}
 use Rattle.text.specs.Desk.{Turn, deskAt, refusedTurn, quarterTurn, sampleTurn, samplesTurn, roomAt, firstTurn, nextTurn, turnAt, lineTurn}

@@ -26,7 +26,8 @@ use Rattle.samples.specs.Stretch as series
 use Rattle.samples.specs.declared.Stretch.{Stretch}
 use Rattle.samples.proofs.Meaning.{begins, bytes-within, some-bytes, at-most}
 use Rattle.samples.proofs.StretchFed.{by-stretch}
-use Rattle.settlement.specs.Many.{roomOf, samplesIn}
+use Rattle.records.specs.Tape.{samplesIn}
+use Rattle.settlement.specs.Many.{roomOf}
 use Rattle.sheets.specs.Buffer.{bufferLength}
 use Rattle.sheets.specs.declared.Printed.{Printed}
 use Rattle.sheets.specs.declared.Printed.the-variants.{Length, TooShort}

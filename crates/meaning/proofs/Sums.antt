@@ -24,7 +24,7 @@ use Rattle.quarter.specs.Blank.{noFigures}
 use Rattle.quarter.specs.Quarter.{figuresIn}
 use Rattle.quarter.proofs.LineLaws.{blankFigures, figuresHeld, sheet-figures}
 use Rattle.quarter.proofs.HandedOut.{lines-sized}
-use Rattle.settlement.specs.Account.{heldTotal}
+use Rattle.records.specs.Account.{heldTotal}
 use Rattle.settlement.proofs.Money.{Near, near-sum, near-fits, All, none, more, Good, lines-good}
 use Rattle.meaning.specs.Given.{Deal, Given, dealsIn, secondsIn, dealTerms, samplesIn, powersIn, termsIn, linesIn, linesUpTo, sumOver, feeIn, penaltyIn}
 use Rattle.meaning.specs.Endings.{FairDeal, Each, of-none, of-more, Proper}

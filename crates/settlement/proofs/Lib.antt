@@ -1,4 +1,3 @@
 -- What the parts of a run add up to.
-pub mod Sums
 pub mod Money
 pub mod Many

@@ -6,10 +6,8 @@ use mathlib.Core.Path.{_≡_, refl, sym, ap, subst, _∙_}
 use mathlib.Core.Bool.{Bool, true, false, cond}
 use mathlib.Core.List.{List, [], _∷_}
 use native.Mathlib.Omega.{arith}
-use native.Mathlib.Numerals.{add-one}
-use lib.ListN.{length, getD, drop, drop-of-length-le}
-use lib.Seq.{drop-cons}
-use lib.IntN.{ℤ, pos}
+use lib.ListN.{length}
+use lib.IntN.{ℤ}
 use Rattle.vocabulary.specs.declared.sample.Sample.{Sample}
 use Rattle.vocabulary.specs.declared.refusal.Refusal.{Refusal}
 use Rattle.vocabulary.specs.declared.refusal.Refusal.the-variants.{None, WrongMoment}
@@ -17,58 +15,29 @@ use Rattle.vocabulary.specs.Refusals.{accepted}
 use Rattle.vocabulary.specs.Sample.{powerInRange}
 use Rattle.claims.specs.Claims.{samplesOf}
 use Rattle.contracts.proofs.Accepted.{passed}
-use Rattle.settlement.specs.Calls.{sampleRefusal, takeRefusal}
+use Rattle.settlement.specs.Calls.{takeRefusal}
 use Rattle.settlement.specs.declared.run.Run.{Run}
 use Rattle.settlement.specs.Run.{sampled, sampleGround, answerOf, sampledOf, takeGround}
-use Rattle.settlement.specs.Many.{roomOf, samplesIn, unlessRefused, manyOf, recordedOf}
-use Rattle.settlement.specs.Tape.{longer}
-use Rattle.settlement.specs.declared.tape.Tape.{Tape}
-use Rattle.settlement.specs.declared.tape.Recorded.{Recorded}
-
--- A STEP OF THE LOOP: what the samples from place k on make of a tape
-module _ (size taken quarters : ℕ) (tape : Tape) (sp ac : List ℤ) (k : ℕ) where
-  abbrev left : Recorded
-  left = recordedOf size taken quarters tape (samplesIn (drop k sp) (drop k ac))
-
-  pub no-setpoint : length sp ≤ k → left ≡ record { tape = tape; refusal = None }
-  unfolding recordedOf samplesIn
-  no-setpoint h = rw (drop-of-length-le sp h)
-
-  no-actual-in : (l : List ℤ) → samplesIn l [] ≡ []
-  unfolding samplesIn
-  no-actual-in [] = refl
-  no-actual-in (x ∷ l) = refl
-
-  pub no-actual : length ac ≤ k → left ≡ record { tape = tape; refusal = None }
-  unfolding recordedOf
-  no-actual h =
-      ap (λ (l : List ℤ). recordedOf size taken quarters tape (samplesIn (drop k sp) l)) (drop-of-length-le ac h)
-      ∙ ap (recordedOf size taken quarters tape) (no-actual-in (drop k sp))
-
-  -- the sample at place k
-  abbrev setpoint : ℤ
-  setpoint = getD sp k (pos 0)
-
-  abbrev actual : ℤ
-  actual = getD ac k (pos 0)
-
-  abbrev ground : Refusal
-  ground = sampleRefusal size (tape .filled) taken quarters setpoint actual
-
-  module _ (p : k < length sp) (q : k < length ac) where
-    one-more : left ≡ cond (accepted ground) (recordedOf size taken quarters (longer tape setpoint actual) (samplesIn (drop (k + 1) sp) (drop (k + 1) ac))) (record { tape = tape; refusal = ground })
-    unfolding recordedOf samplesIn
-    one-more = rw (drop-cons sp k (pos 0) p, drop-cons ac k (pos 0) q, add-one k)
-
-    pub refused-here : accepted ground ≡ false → left ≡ record { tape = tape; refusal = ground }
-    refused-here e = one-more ∙ rw (e)
-
-    pub taken-here : accepted ground ≡ true → left ≡ recordedOf size taken quarters (longer tape setpoint actual) (samplesIn (drop (k + 1) sp) (drop (k + 1) ac))
-    taken-here e = one-more ∙ rw (e)
+use Rattle.settlement.specs.Many.{roomOf, unlessRefused, manyOf}
+use Rattle.records.specs.Tape.{longer, sampleRefusal, oneRecorded, recordedOf}
+use Rattle.records.specs.declared.tape.Tape.{Tape}
+use Rattle.records.specs.declared.tape.Recorded.{Recorded}
 
 -- a run with another tape
 abbrev withTape : Run → Tape → Run
 withTape run tape = record { plan = run .plan; books = run .books; past = run .past; tape = tape; account = run .account }
+
+-- what a sample makes of a run is what it makes of its tape
+tape-of : (b : Bool) (run : Run) (next : Tape) → withTape run (cond b next (run .tape)) ≡ cond b (withTape run next) run
+tape-of true run next = refl
+tape-of false run next = refl
+
+pub one-recorded : (run : Run) (x y : ℤ) {r : Recorded} → r ≡ oneRecorded (samplesOf (run .past)) (run .account .taken) (run .plan .quarters) (run .tape) x y
+    → record { run = withTape run (r .tape); refusal = r .refusal } ≡ sampledOf run x y
+unfolding oneRecorded sampledOf sampleGround sampled
+one-recorded run x y e =
+    let g = sampleRefusal (samplesOf (run .past)) (run .tape .filled) (run .account .taken) (run .plan .quarters) x y in
+    rw e (ap (λ (z : Run). record { run = z; refusal = g }) (tape-of (accepted g) run (longer (run .tape) x y)))
 
 -- what samples make of a run is what they make of its tape
 recorded-in : Run → Tape → List Sample → Recorded

@@ -3,28 +3,17 @@ use Prim.Native.Nat.{ℕ, _-_}
 use mathlib.Core.Bool.{cond}
 use mathlib.Core.List.{List, [], _∷_}
 use lib.Dec.{leb}
-use lib.IntN.{ℤ}
 use Rattle.vocabulary.specs.declared.refusal.Refusal.the-variants.{None}
 use Rattle.vocabulary.specs.Refusals.{accepted}
 use Rattle.vocabulary.specs.declared.sample.Sample.{Sample}
 use Rattle.claims.specs.Claims.{samplesOf}
-use Rattle.settlement.specs.declared.tape.Tape.{Tape}
-use Rattle.settlement.specs.declared.tape.Recorded.{Recorded}
 use Rattle.settlement.specs.declared.run.Run.{Run}
 use Rattle.settlement.specs.declared.run.Answer.{Answer}
-use Rattle.settlement.specs.Calls.{sampleRefusal}
-use Rattle.settlement.specs.Tape.{longer}
 use Rattle.settlement.specs.Run.{sampledOf}
 
 -- how many samples the quarter hour at hand still takes
 unfoldable pub roomOf : Run → ℕ
 roomOf run = cond (leb (run .plan .quarters) (run .account .taken)) 0 (samplesOf (run .past) - run .tape .filled)
-
--- several samples, as their setpoints and their actuals
-unfoldable pub samplesIn : List ℤ → List ℤ → List Sample
-samplesIn [] actuals = []
-samplesIn (setpoint ∷ setpoints) [] = []
-samplesIn (setpoint ∷ setpoints) (actual ∷ actuals) = record { setpoint = setpoint; actual = actual } ∷ samplesIn setpoints actuals
 
 -- one after the other, until one is refused
 abbrev pub unlessRefused : Answer → Answer → Answer
@@ -34,12 +23,3 @@ unfoldable pub manyOf : Run → List Sample → Answer
 manyOf run [] = record { run = run; refusal = None }
 manyOf run (s ∷ ss) =
     unlessRefused (sampledOf run (s .setpoint) (s .actual)) (manyOf (sampledOf run (s .setpoint) (s .actual) .run) ss)
-
--- ---- as the tape holds them: a quarter hour has `size` samples
-
-unfoldable pub recordedOf : ℕ → ℕ → ℕ → Tape → List Sample → Recorded
-recordedOf size taken quarters tape [] = record { tape = tape; refusal = None }
-recordedOf size taken quarters tape (s ∷ ss) =
-    cond (accepted (sampleRefusal size (tape .filled) taken quarters (s .setpoint) (s .actual)))
-    (recordedOf size taken quarters (longer tape (s .setpoint) (s .actual)) ss)
-    (record { tape = tape; refusal = sampleRefusal size (tape .filled) taken quarters (s .setpoint) (s .actual) })

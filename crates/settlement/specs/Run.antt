@@ -17,6 +17,8 @@ use Rattle.quarter.specs.Blank.{noSheets}
 use Rattle.claims.specs.Claims.{samplesOf}
 use Rattle.quarter.specs.Quarter.{quarterHeld}
 use Rattle.quarter.specs.declared.hour.Settled.{Settled}
+use Rattle.records.specs.Tape.{noTape, longer, rewound, sampleRefusal}
+use Rattle.records.specs.Account.{noAccount, withQuarter}
 use Rattle.settlement.specs.declared.plan.Plan.{Plan}
 use Rattle.settlement.specs.declared.run.Run.{Run}
 use Rattle.settlement.specs.declared.run.Opened.{Opened}
@@ -24,10 +26,8 @@ use Rattle.settlement.specs.declared.run.Answer.{Answer}
 use Rattle.settlement.specs.declared.run.Taken.{Taken}
 use Rattle.settlement.specs.declared.run.Ended.{Ended}
 use Rattle.settlement.specs.declared.run.Heading.{Heading}
-use Rattle.settlement.specs.Calls.{intervalOf, openRefusal, sampleRefusal, endRefusal, unbegun, takeRefusal}
+use Rattle.settlement.specs.Calls.{intervalOf, openRefusal, endRefusal, unbegun, takeRefusal}
 use Rattle.settlement.specs.Plan.{lotMeant, planOf}
-use Rattle.settlement.specs.Tape.{noTape, longer, rewound}
-use Rattle.settlement.specs.Account.{noAccount, withQuarter}
 
 -- ---- opening
 

@@ -4,12 +4,10 @@ use arithmetic::whole::above_zero;
 use arithmetic::whole::within;
 use vocabulary::header::Header;
 use vocabulary::refusal::Refusal;
-use vocabulary::sample::Sample;
 ghost use mathlib.Core.Path.{_≡_};
 ghost use Prim.Native.Nat.{_<_};
 ghost use Rattle.vocabulary.specs.Refusals.{numberOf};
-ghost use Rattle.vocabulary.specs.Sample.{powerInRange};
-ghost use Rattle.settlement.specs.Calls.{secondsKnown, openRefusal, endRefusal, unbegun, takeRefusal, Admitted};
+ghost use Rattle.settlement.specs.Calls.{secondsKnown, openRefusal, endRefusal, unbegun, takeRefusal};
 
 fn seconds_known(seconds: u32) -> bool
     ensures { λ r. ⌜ r ≡ secondsKnown seconds ⌝ }
@@ -54,37 +52,6 @@ pub(crate) fn before_samples(filled: usize, taken: u8, quarters: u8) -> bool
         return false;
     }
     quarters != 0
-}
-
-fn in_range(power: i32) -> bool
-    ensures { λ r. ⌜ r ≡ powerInRange power ⌝ }
-{
-    within(-2_000_000, power, 2_000_000)
-}
-
-// Why a sample is refused: a quarter hour waits, or all are taken; or a power is out of range.
-pub(crate) fn sample_refusal(
-    samples: usize,
-    filled: usize,
-    taken: u8,
-    quarters: u8,
-    sample: Sample,
-) -> Refusal
-    ensures { λ r. ⌜ Admitted samples filled taken quarters (sample .setpoint) (sample .actual) r ⌝ }
-{
-    if samples <= filled {
-        return Refusal::WrongMoment;
-    }
-    if quarters <= taken {
-        return Refusal::WrongMoment;
-    }
-    if !in_range(sample.setpoint) {
-        return Refusal::BadPower;
-    }
-    if !in_range(sample.actual) {
-        return Refusal::BadPower;
-    }
-    Refusal::None
 }
 
 // Why taking is refused: no quarter hour waits.

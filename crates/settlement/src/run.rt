@@ -1,15 +1,12 @@
 // A run: one stretch of quarter hours with its contracts. It goes into each call by value and comes back, with the refusal.
-use crate::account::Account;
 use crate::grounds::before_samples;
 use crate::grounds::end_refusal;
 use crate::grounds::open_refusal;
-use crate::grounds::sample_refusal;
 use crate::grounds::take_refusal;
 use crate::plan::Plan;
 use crate::plan::interval_of;
 use crate::plan::lot_meant;
 use crate::plan::plan_of;
-use crate::tape::Tape;
 use arithmetic::date::Date;
 use arithmetic::money::Cents;
 use arithmetic::whole::above_zero;
@@ -20,6 +17,8 @@ use quarter::hour::quarter_hour;
 use quarter::hour::samples_of;
 use quarter::sheet::Sheets;
 use quarter::sheet::no_sheets;
+use records::account::Account;
+use records::tape::Tape;
 use vocabulary::contract::Contract;
 use vocabulary::header::Header;
 use vocabulary::interval::Interval;
@@ -27,7 +26,9 @@ use vocabulary::refusal::Refusal;
 use vocabulary::sample::Sample;
 ghost use mathlib.Core.Path.{_≡_};
 ghost use Prim.Native.Nat.{_<_};
-ghost use Rattle.settlement.specs.Many.{roomOf, samplesIn, manyOf};
+ghost use Rattle.records.specs.Account.{noAccount};
+ghost use Rattle.records.specs.Tape.{noTape, samplesIn};
+ghost use Rattle.settlement.specs.Many.{roomOf, manyOf};
 ghost use Rattle.settlement.specs.Run.{freshRun, noRun, runOf, openedOf, contractGround, contractedOf, sampledOf, quarterIn, settledOf, takenOf, endedOf, headingOf};
 
 // The past is the channel as it stands where the quarter hour at hand began; the tape has that quarter hour's samples.
@@ -75,14 +76,38 @@ pub struct Heading {
     pub lot: u32,
 }
 
+// No sample yet.
+fn no_tape() -> Tape
+    ensures { λ r. ⌜ r ≡ noTape ⌝ }
+{
+    let setpoints = [0i32; 900];
+    let actuals = [0i32; 900];
+    Tape {
+        setpoints: setpoints,
+        actuals: actuals,
+        filled: 0,
+    }
+}
+
+// No quarter hour yet.
+fn no_account() -> Account
+    ensures { λ r. ⌜ r ≡ noAccount ⌝ }
+{
+    Account {
+        taken: 0,
+        fees: Cents(0),
+        penalties: Cents(0),
+    }
+}
+
 // A run with nothing in it yet.
 fn fresh(plan: Plan, interval: Interval, lot: u32) -> Run
     ensures { λ r. ⌜ r ≡ freshRun plan interval lot ⌝ }
 {
     let books = Books::new();
     let past = Channel::new(interval, lot);
-    let tape = Tape::new();
-    let account = Account::new();
+    let tape = no_tape();
+    let account = no_account();
     Run {
         plan: plan,
         books: books,
@@ -176,17 +201,15 @@ impl Run {
     {
         let past = self.past;
         let tape = self.tape;
-        let refusal = sample_refusal(
-            samples_of(past),
-            tape.filled,
+        let recorded = tape.with_sample(
+            past.interval(),
             self.account.taken,
             self.plan.quarters,
             sample,
         );
-        if refusal.number() == 0 {
-            let longer = tape.with(sample);
-            self.tape = longer;
-        }
+        let refusal = recorded.refusal;
+        let longer = recorded.tape;
+        self.tape = longer;
         Answer {
             run: self,
             refusal: refusal,
@@ -210,14 +233,13 @@ impl Run {
         requires { ⌜ self .account .taken < 255 ⌝ }
         ensures { λ r. ⌜ r ≡ settledOf self quarter ⌝ }
     {
-        let tape = self.tape;
         let account = self.account;
         let past = quarter.channel;
         let sheets = quarter.sheets;
-        let rewound = tape.rewound();
-        let more = account.with(sheets);
+        let mut more = account.with_sheets(sheets);
+        more.taken = account.taken + 1;
         self.past = past;
-        self.tape = rewound;
+        self.tape.filled = 0;
         self.account = more;
         self
     }
@@ -304,11 +326,14 @@ impl Run {
         ensures { λ r. ⌜ r ≡ manyOf self (samplesIn (now (setpoints .entry)) (now (actuals .entry))) ⌝ }
     {
         let past = self.past;
-        let plan = self.plan;
-        let account = self.account;
-        let size = samples_of(past);
         let tape = self.tape;
-        let recorded = tape.with_all(size, account.taken, plan.quarters, setpoints, actuals);
+        let recorded = tape.with_samples(
+            past.interval(),
+            self.account.taken,
+            self.plan.quarters,
+            setpoints,
+            actuals,
+        );
         let after = recorded.tape;
         let refusal = recorded.refusal;
         self.tape = after;

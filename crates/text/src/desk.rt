@@ -19,7 +19,7 @@ ghost use mathlib.Core.Path.{_≡_};
 ghost use Prim.Native.Nat.{_≤_};
 ghost use lib.ListN.{length};
 ghost use Rattle.sheets.specs.Buffer.{bufferLength, printAnswer, printInto};
-ghost use Rattle.settlement.specs.Many.{samplesIn};
+ghost use Rattle.records.specs.Tape.{samplesIn};
 ghost use Rattle.reading.specs.Line.{lineOf};
 ghost use Rattle.text.specs.Desk.{Tells, emptyDesk, goesOn, answerOf, refusedTurn, openTurn, contractTurn, takenText, quarterTurn, sampleTurn};
 ghost use Rattle.text.specs.Desk.{samplesTurn, roomAt, endTurn, firstTurn, nextTurn, lineTurn, finishTurn, closedAt};

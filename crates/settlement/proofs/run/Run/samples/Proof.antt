@@ -3,21 +3,24 @@
 use borrow.Author.Needs.{needs}
 use denote.Ref.{now}
 use mathlib.Core.Path.{_∙_}
-use Rattle.settlement.specs.Many.{samplesIn}
+use Rattle.claims.specs.Claims.{samplesOf}
+use Rattle.records.specs.Tape.{samplesIn}
 use Rattle.settlement.proofs.Many.{many-recorded}
 use Rattle.settlement.proofs.run.Run.samples.Statement.{statement}
 use Rattle.settlement.proofs.run.Run.samples.Tie as tie
 
-samples-of-requires : tie.Need-samples-of-requires
-samples-of-requires c κs = search needs
+interval-requires : tie.Need-interval-requires
+interval-requires c κs = search needs
 
-with-all-requires : tie.Need-with-all-requires
-with-all-requires c κs = search needs
+with-samples-requires : tie.Need-with-samples-requires
+with-samples-requires c κs = search needs
 
 returns : tie.Need-returns
+unfolding samplesOf
 returns c =
-    let args = c .before .before .before .before .before .before .before .args in
-    many-recorded (args .self) (samplesIn (now (args .setpoints)) (now (args .actuals))) (c .before .with-all .ensures ∙ rw (c .before .before .before .samples-of .ensures .0))
+    let at-tape = c .before in
+    let args = at-tape .before .before .before .before .args in
+    many-recorded (args .self) (samplesIn (now (args .setpoints)) (now (args .actuals))) (at-tape .with-samples .ensures ∙ rw (at-tape .before .interval .ensures))
 
 pub samples-spec : {M : Type 1} → statement M
-samples-spec = tie.close (tie.spec samples-of-requires with-all-requires returns)
+samples-spec = tie.close (tie.spec interval-requires with-samples-requires returns)
