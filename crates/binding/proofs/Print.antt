@@ -9,6 +9,9 @@ use Rattle.print.proofs.put_line_end.Reads as put-line-end
 use Rattle.print.proofs.put_count.Reads as put-count
 use Rattle.print.proofs.put_number.Reads as put-number
 use Rattle.print.proofs.put_date.Reads as put-date
+use Rattle.print.proofs.put_field.Reads as put-field
+use Rattle.print.proofs.put_fields.Reads as put-fields
+use Rattle.print.proofs.put_money.Reads as put-money
 
 put-single : SingleBytes (λ κs x. now (x .0)) put.Post
 put-single κs a r r′ x x′ p q = wrote-only p q
@@ -30,3 +33,12 @@ put-number-single κs a r r′ x x′ p q = wrote-only p q
 
 put-date-single : SingleBytes (λ κs x. now (x .0)) put-date.Post
 put-date-single κs a r r′ x x′ p q = wrote-only p q
+
+put-field-single : SingleBytes (λ κs x. now (x .0)) put-field.Post
+put-field-single κs a r r′ x x′ p q = wrote-only (p .0) (q .0)
+
+put-fields-single : SingleBytes (λ κs x. now (x .0)) put-fields.Post
+put-fields-single κs a r r′ x x′ p q = wrote-only (p .0) (q .0)
+
+put-money-single : SingleBytes (λ κs x. now (x .0)) put-money.Post
+put-money-single κs a r r′ x x′ p q = wrote-only (p .0) (q .0)

@@ -1,10 +1,14 @@
 // Text, written into a lent buffer from a place on. Each function answers the place after its text. What lies past the
 // buffer's end is not written, so no buffer is too short for a call, and the same call on one byte measures a text.
 use arithmetic::date::Date;
+use arithmetic::money::Cents;
 use arithmetic::whole::magnitude;
-ghost use mathlib.Core.List.{[], _∷_, _++_};
+ghost use Prim.Native.Nat.{_*_, _≤_};
+ghost use mathlib.Core.List.{[], _∷_, _++_, map};
+ghost use lib.ListN.{length};
 ghost use Rattle.print.specs.Decimal.{twoDigits, fourDigits, digits, numberText, dateText, hyphen, tab, lineEnd};
 ghost use Rattle.print.specs.Print.{Wrote};
+ghost use Rattle.print.specs.Fields.{tabbed};
 
 // The last place that there is a number for: none comes after it, and no buffer reaches it.
 const LAST: usize = 18446744073709551615;
@@ -96,4 +100,35 @@ pub fn put_date(buf: &mut [u8], at: usize, date: Date) -> usize
     let month = put_four(buf, at, date.year);
     let day = put_part(buf, month, date.month);
     put_part(buf, day, date.day)
+}
+
+// A field of a line: its tab, and a number that is never negative.
+pub fn put_field(buf: &mut [u8], at: usize, n: u64) -> usize
+    ensures wrote { λ r. ⌜ Wrote (now (buf .entry)) at (tab ++ digits n) r (now (buf .exit)) ⌝ }
+    ensures short { λ _. ⌜ length (digits n) ≤ 20 ⌝ }
+{
+    let field = put_tab(buf, at);
+    put_count(buf, field, n)
+}
+
+pub fn put_fields(buf: &mut [u8], at: usize, numbers: &[u64]) -> usize
+    ensures wrote { λ r. ⌜ Wrote (now (buf .entry)) at (tabbed (map digits (now (numbers .entry)))) r (now (buf .exit)) ⌝ }
+    ensures short { λ _. ⌜ length (tabbed (map digits (now (numbers .entry)))) ≤ 21 * length (now (numbers .entry)) ⌝ }
+{
+    let mut next = at;
+    let mut i = 0;
+    while i < numbers.len() {
+        next = put_field(buf, next, numbers[i]);
+        i += 1;
+    }
+    next
+}
+
+// A field that is an amount of money.
+pub fn put_money(buf: &mut [u8], at: usize, money: Cents) -> usize
+    ensures wrote { λ r. ⌜ Wrote (now (buf .entry)) at (tab ++ numberText (money .0)) r (now (buf .exit)) ⌝ }
+    ensures short { λ _. ⌜ length (numberText (money .0)) ≤ 20 ⌝ }
+{
+    let field = put_tab(buf, at);
+    put_number(buf, field, money.0)
 }

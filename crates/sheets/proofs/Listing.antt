@@ -4,7 +4,8 @@ use mathlib.Core.Path.{_≡_, refl}
 use mathlib.Core.List.{[], _∷_}
 use lib.IntN.{pos}
 use Rattle.print.specs.Decimal.{digitsIn, digits, numberText, twoDigits, fourDigits, dateText}
-use Rattle.sheets.specs.Sheet.{tabbed, lineText, headText, poolText, energiesOf, contractText, contractsText, sideText, quarterText, totalText, refusalText}
+use Rattle.print.specs.Fields.{tabbed}
+use Rattle.sheets.specs.Sheet.{lineText, headText, poolText, energiesOf, contractText, contractsText, sideText, quarterText, totalText, refusalText}
 use Rattle.arithmetic.specs.declared.energy.Kwh.{Kwh}
 use Rattle.arithmetic.specs.declared.money.Cents.{Cents}
 use Rattle.vocabulary.specs.declared.interval.Interval.the-variants.{Four}

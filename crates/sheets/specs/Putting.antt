@@ -3,7 +3,7 @@ use Prim.Native.Nat.{ℕ, _≤_}
 use mathlib.Core.List.{List, _++_}
 use lib.ListN.{length}
 use Rattle.print.specs.Print.{Wrote}
-use Rattle.sheets.specs.Sheet.{tabbed}
+use Rattle.print.specs.Fields.{tabbed}
 
 -- the text is written into d from place at on, r is the place after it, and it is at most so many bytes long
 pub record WroteUpTo (most : ℕ) (d : List ℕ) (at : ℕ) (text : List ℕ) (r : ℕ) (d′ : List ℕ) : Type 0 where
