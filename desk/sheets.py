@@ -1,7 +1,11 @@
 """A sheet for people and for spreadsheets, from its text alone. The only sums are those of lines that stand on it."""
 import collections
 
+from desk.endings import Trouble
 from desk.visible import grouped
+
+# the format number of the sheets that are read here: that of the V line
+FORMAT = "2"
 
 # a column of the lines Q and K: its short name on the sheet, its name in words, its unit
 Column = collections.namedtuple("Column", "short name unit")
@@ -11,11 +15,17 @@ COLUMNS = (
     Column("ME", "surplus", "kWh"), Column("MI", "shortfall", "kWh"), Column("ZU", "handed out", "kWh"),
     Column("UN", "under-delivery", "kWh"), Column("AB", "billed", "kWh"),
     Column("", "fee", "cent"), Column("", "penalty", "cent"),
+    # last, so that spreadsheets made before there was a rest find every other column where it was
+    Column("rest of SO", "asked for", "kWh"), Column("rest of IS", "delivered", "kWh"),
+    Column("rest of AK", "accepted", "kWh"),
 )
-ME, FEE = 3, 8
+# a K line has no ME and no rest, a Q line no fee and no penalty
+ME, FEE, REST = 3, 8, 10
+NO_MONEY, NO_REST = [None] * (REST - FEE), [None] * (len(COLUMNS) - REST)
 DIRECTIONS = {"P": "Positive (P): extra infeed", "N": "Negative (N): extra offtake"}
 NOTE = """The operator pays a fee above 0 to the pool, the pool pays one below 0 to the operator, and owes penalties.
-The lines of contracts are rounded on their own and need not add up to the pool's.
+The rest is what lies above the awards of all contracts together: it is the pool's and no contract's.
+Each energy is rounded on its own: those of the contracts and the rest need not add up to the pool's.
 """
 
 # A line Q or K: no contract on a Q line; as many figures as there are columns, None where the line has none.
@@ -29,12 +39,15 @@ def read(text):
     for line in text.decode().splitlines():
         kind, *fields = line.split("\t")
         if kind == "V":
+            if fields[0] != FORMAT:
+                raise Trouble(f"the sheet has format {fields[0]}: only format {FORMAT} is read here")
             heading = fields[1], int(fields[2]), int(fields[3])
         elif kind == "Q":
-            rows.append(Row(int(fields[0]), fields[1], "", (*map(int, fields[2:]), None, None)))
+            figures = tuple(map(int, fields[2:]))
+            rows.append(Row(int(fields[0]), fields[1], "", (*figures[:FEE], *NO_MONEY, *figures[FEE:])))
         elif kind == "K":
             figures = tuple(map(int, fields[3:]))
-            rows.append(Row(int(fields[0]), fields[1], fields[2], (*figures[:ME], None, *figures[ME:])))
+            rows.append(Row(int(fields[0]), fields[1], fields[2], (*figures[:ME], None, *figures[ME:], *NO_REST)))
         elif kind == "T":
             ending = tuple(map(int, fields))
     return Sheet(*heading, rows, *ending)
@@ -46,7 +59,7 @@ def csv(sheet, separator):
     for row in sheet.rows:
         kind = "K" if row.contract else "Q"
         yield _joined([kind, *lead, row.quarter, row.direction, row.contract, *row.figures], separator)
-    yield _joined(["T", *lead, None, None, None, *[None] * FEE, sheet.fees, sheet.penalties], separator)
+    yield _joined(["T", *lead, None, None, None, *[None] * FEE, sheet.fees, sheet.penalties, *NO_REST], separator)
 
 
 def csv_header(separator):
@@ -91,9 +104,9 @@ def _cell(figure):
 
 
 def _sums(rows):
-    """the sums of the pool's energies and of the contracts' fees and penalties"""
+    """the sums of the pool's energies, the rest among them, and of the contracts' fees and penalties"""
     for place in range(len(COLUMNS)):
-        wanted = [row for row in rows if bool(row.contract) == (place >= FEE)]
+        wanted = [row for row in rows if bool(row.contract) == (FEE <= place < REST)]
         yield grouped(sum(row.figures[place] for row in wanted))
 
 

@@ -327,7 +327,7 @@ mod tests {
     }
 
     const OPEN: &str = "O|2017|2|20|4|5000|1\n";
-    const NOTHING: &str = "Q|0|P|0|0|0|0|0|0|0|0\nQ|0|N|0|0|0|0|0|0|0|0\n";
+    const NOTHING: &str = "Q|0|P|0|0|0|0|0|0|0|0|0|0|0\nQ|0|N|0|0|0|0|0|0|0|0|0|0|0\n";
 
     #[test]
     fn without_a_run_every_call_is_at_a_wrong_moment() {
@@ -337,7 +337,7 @@ mod tests {
             let [contract, samples, take, end, heading] = numbers.try_into().unwrap();
             format!(
                 "{contract}|1\n{samples}|1|0\n{take}|1\n{NOTHING}{end}|1\nT|0|0|0\n\
-                 {heading}|0|0|0\nV|1|2000-01-01|1|1\n"
+                 {heading}|0|0|0\nV|2|2000-01-01|1|1\n"
             )
         };
         assert_eq!(answered(calls), refused(1));
@@ -350,7 +350,7 @@ mod tests {
     fn an_opening_begins_anew() {
         let script = format!("{OPEN}C|N|1|1|A\nH\nO|2018|3|1|1|1|100\nH\n");
         let answers =
-            "1|0\n2|0\n3|0|0|1\nV|1|2017-02-20|4|5000\n4|0\n5|0|0|0\nV|1|2018-03-01|1|1\n";
+            "1|0\n2|0\n3|0|0|1\nV|2|2017-02-20|4|5000\n4|0\n5|0|0|0\nV|2|2018-03-01|1|1\n";
         assert_eq!(answered(&script), answers);
     }
 
@@ -364,10 +364,10 @@ mod tests {
     #[test]
     fn a_quarter_hour_is_taken_and_ended_in_its_time() {
         let quarter = "\
-Q|0|P|2500|2489|2444|44|56|44|0|2488
+Q|0|P|2500|2489|2444|44|56|44|0|2488|0|0|0
 K|0|P|A1|1500|1500|1500|0|0|0|1500|7500|0
 K|0|P|A2|1000|989|944|56|44|0|988|7904|0
-Q|0|N|0|0|0|0|0|0|0|0
+Q|0|N|0|0|0|0|0|0|0|0|0|0|0
 ";
         let script = format!(
             "{OPEN}C|P|6000|5000|A1\nC|P|6000|8000|A2\nS|125|10000|9600\nC|P|1|9000|A3\nK\n\
@@ -400,7 +400,7 @@ Q|0|N|0|0|0|0|0|0|0|0
     fn any_number_is_printed() {
         let script =
             "V|T|0|65535|255|0|3|4294967295\nT|T|0|255|-1|-9223372036854775808\nR|T|0|0|0\n";
-        let answers = "1|0|28\nV|1|5535-55-00|3|4294967295\n\n2|0|30\nT|255|-1|-9223372036854775808\n\n3|0|6\nR|0|0\n\n";
+        let answers = "1|0|28\nV|2|5535-55-00|3|4294967295\n\n2|0|30\nT|255|-1|-9223372036854775808\n\n3|0|6\nR|0|0\n\n";
         assert_eq!(answered(script), answers);
     }
 

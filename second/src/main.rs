@@ -147,7 +147,7 @@ mod tests {
     }
 
     const HEADER: &str = "D|2017-02-20|4|-|1\n";
-    const OPENING: &str = "V|1|2017-02-20|4|5000\n";
+    const OPENING: &str = "V|2|2017-02-20|4|5000\n";
 
     fn example() -> String {
         let contracts = "C|P|A1|6000|5000\nC|P|A2|6000|8000\n";
@@ -157,17 +157,55 @@ mod tests {
     }
 
     const LISTING: &str = "\
-V|1|2017-02-20|4|5000
-Q|0|P|2500|2489|2444|44|56|44|0|2488
+V|2|2017-02-20|4|5000
+Q|0|P|2500|2489|2444|44|56|44|0|2488|0|0|0
 K|0|P|A1|1500|1500|1500|0|0|0|1500|7500|0
 K|0|P|A2|1000|989|944|56|44|0|988|7904|0
-Q|0|N|0|0|0|0|0|0|0|0
+Q|0|N|0|0|0|0|0|0|0|0|0|0|0
 T|1|15404|0
 ";
 
     #[test]
     fn the_example_prints_its_listing() {
         assert_eq!(settled_text(&example()), tabbed(LISTING));
+    }
+
+    /// The trader's case: 13,000 kW asked for and delivered, 12,000 awarded.
+    #[test]
+    fn what_no_contract_took_stands_as_rest() {
+        let contracts = "C|P|A1|6000|5000\nC|P|A2|6000|8000\n";
+        let samples = "S|13000|13000\n".repeat(225);
+        let listing = "\
+V|2|2017-02-20|4|5000
+Q|0|P|3250|3250|3250|0|0|0|0|3000|250|250|250
+K|0|P|A1|1500|1500|1500|0|0|0|1500|7500|0
+K|0|P|A2|1500|1500|1500|0|0|0|1500|12000|0
+Q|0|N|0|0|0|0|0|0|0|0|0|0|0
+T|1|19500|0
+";
+        let printed = settled_text(&format!("{HEADER}{contracts}{samples}E\n"));
+        assert_eq!(printed, tabbed(listing));
+    }
+
+    /// Each quarter hour has the rest of its own samples, in both directions,
+    /// and of each power its own.
+    #[test]
+    fn the_rest_is_that_of_its_quarter_hour() {
+        let header = "D|2017-02-20|4|-|2\n";
+        let first = "S|13000|13500\n".repeat(225);
+        let then = "S|-1000|-1004\n".repeat(225);
+        let printed = settled_text(&format!("{header}C|P|A|12000|1\n{first}{then}E\n"));
+        let lines: Vec<&str> = printed.lines().collect();
+        let rest = |line: &str| line.split('\t').skip(11).collect::<Vec<_>>().join(" ");
+        assert!(lines[1].starts_with("Q\t0\tP\t"));
+        assert_eq!(rest(lines[1]), "250 375 250");
+        assert!(lines[3].starts_with("Q\t0\tN\t"));
+        assert_eq!(rest(lines[3]), "0 0 0");
+        assert!(lines[4].starts_with("Q\t1\tP\t"));
+        assert_eq!(rest(lines[4]), "0 0 0");
+        // No negative contract: all of it is rest.
+        assert!(lines[6].starts_with("Q\t1\tN\t250\t251\t250\t"));
+        assert_eq!(rest(lines[6]), "250 251 250");
     }
 
     #[test]

@@ -3,9 +3,13 @@ import csv
 import io
 import os
 import re
+import unittest
 
-from common import CONTRACTS, DAY, DAY_SHEET, EXAMPLE, GOOD, HEADER, ROOT, SAMPLES, FrontEnd, lines
+from common import CONTRACTS, DAY, DAY_SHEET, EXAMPLE, EXAMPLE_SHEET, GOOD, HEADER, ROOT, SAMPLES, FrontEnd, lines
+from desk import sheets
+from desk.endings import Trouble
 
+REST = ROOT / "examples" / "rest.txt"
 BOTH = lines(HEADER, "C\tP\tA1\t2000000\t9999999", "C\tN\tB1\t2000000\t-9999999",
              ["S\t2000000\t1000000"] * 100, ["S\t-2000000\t-1900000"] * 125, "E")
 
@@ -22,10 +26,21 @@ class Table(FrontEnd):
                     "In all: fees 15,404 cent, penalties 0 cent."):
             self.assertIn(row, text)
         rows = [line.split() for line in text.splitlines()]
-        self.assertIn(["quarter", "SO", "IS", "AK", "ME", "MI", "ZU", "UN", "AB"], rows)
-        self.assertIn(["0", "pool", "2,500", "2,489", "2,444", "44", "56", "44", "0", "2,488"], rows)
+        short = ["quarter", "SO", "IS", "AK", "ME", "MI", "ZU", "UN", "AB"]
+        self.assertIn([*short, "rest", "of", "SO", "rest", "of", "IS", "rest", "of", "AK"], rows)
+        pool, no_rest = ["pool", "2,500", "2,489", "2,444", "44", "56", "44", "0", "2,488"], ["0", "0", "0"]
+        self.assertIn(["0", *pool, *no_rest], rows)
         self.assertIn(["0", "A2", "1,000", "989", "944", "56", "44", "0", "988", "7,904", "0"], rows)
-        self.assertIn(["sum", "pool", "2,500", "2,489", "2,444", "44", "56", "44", "0", "2,488", "15,404", "0"], rows)
+        self.assertIn(["sum", *pool, "15,404", "0", *no_rest], rows)
+
+    def test_rest(self):
+        text = self.call("settle", "--table", REST).stdout.decode()
+        self.assertIn("The rest is what lies above the awards of all contracts together", text)
+        rows = [line.split() for line in text.splitlines()]
+        pool, rest = ["pool", "3,250", "3,250", "3,250", "0", "0", "0", "0", "3,000"], ["250", "250", "250"]
+        self.assertIn(["0", *pool, *rest], rows)
+        self.assertIn(["0", "A2", "1,500", "1,500", "1,500", "0", "0", "0", "1,500", "12,000", "0"], rows)
+        self.assertIn(["sum", *pool, "19,500", "0", *rest], rows)
 
     def test_aligned(self):
         self.file("both.txt", BOTH)
@@ -47,7 +62,10 @@ class Table(FrontEnd):
             contracts = [row for row in rows if row[0] == "K" and row[2] == direction]
             wanted = [sum(int(row[place]) for row in pool) for place in range(3, 11)]
             wanted += [sum(int(row[place]) for row in contracts) for place in (11, 12)]
+            wanted += [sum(int(row[place]) for row in pool) for place in (11, 12, 13)]
             self.assertEqual(told[2:], [f"{number:,}" for number in wanted])
+        # the day asks for more than is awarded, in one direction
+        self.assertEqual([told[-3:] == ["0", "0", "0"] for told in sums], [False, True])
 
     def test_refused_gives_no_table(self):
         for form in ("--table", "--csv"):
@@ -66,6 +84,9 @@ class Csv(FrontEnd):
     def test_every_line_and_no_decimals(self):
         header, *rows = self.rows(DAY)
         self.assertEqual(header[:7], ["line", "day", "interval s", "lot kW", "quarter hour", "direction", "contract"])
+        self.assertEqual(header[7:10], ["SO kWh", "IS kWh", "AK kWh"])
+        self.assertEqual(header[14:], ["AB kWh", "fee cent", "penalty cent", "rest of SO kWh", "rest of IS kWh",
+                                       "rest of AK kWh"])
         self.assertTrue(all(len(row) == len(header) for row in rows))
         sheet = [line.split("\t") for line in DAY_SHEET.decode().splitlines()]
         self.assertEqual([row[0] for row in rows], [line[0] for line in sheet[1:]])
@@ -73,6 +94,14 @@ class Csv(FrontEnd):
             figures = [cell for cell in row[7:] if cell]
             self.assertEqual(figures, {"Q": line[3:], "K": line[4:], "T": line[2:]}[line[0]])
             self.assertEqual(row[1:4], ["2017-02-20", "4", "5000"])
+
+    def test_rest_stands_last_and_on_pool_rows_alone(self):
+        _, positive, first, second, negative, total = self.rows(REST)
+        self.assertEqual(positive[-5:], ["", "", "250", "250", "250"])
+        self.assertEqual(first[-5:], ["7500", "0", "", "", ""])
+        self.assertEqual(second[-5:], ["12000", "0", "", "", ""])
+        self.assertEqual(negative[-5:], ["", "", "0", "0", "0"])
+        self.assertEqual(total[-5:], ["19500", "0", "", "", ""])
 
     def test_separator(self):
         self.assertEqual(self.rows("--separator", ",", EXAMPLE, delimiter=","), self.rows(EXAMPLE))
@@ -85,6 +114,16 @@ class Csv(FrontEnd):
         self.assertEqual(self.call("settle", "--csv", EXAMPLE, "-o", ".").returncode, 0)
         self.assertEqual(self.call("settle", "--table", EXAMPLE, "-o", ".").returncode, 0)
         self.assertEqual(sorted(os.listdir(self.folder)), ["example.csv", "example.table"])
+
+
+class Format(unittest.TestCase):
+    """A sheet of another format would have its figures in other columns."""
+
+    def test_format(self):
+        self.assertEqual(sheets.read(EXAMPLE_SHEET).quarters, 1)
+        for other in (b"V\t1\t", b"V\t3\t", b"V\t22\t"):
+            with self.assertRaisesRegex(Trouble, "only format 2 is read here"):
+                sheets.read(EXAMPLE_SHEET.replace(b"V\t2\t", other))
 
 
 class AfterEnd(FrontEnd):
@@ -142,9 +181,9 @@ class Readme(FrontEnd):
         self.text = (ROOT / "README.md").read_text(encoding="utf-8")
 
     def test_sheets(self):
-        printed = self.call("settle", "--join", EXAMPLE, ROOT / "examples" / "negative.txt").stdout
+        printed = self.call("settle", "--join", EXAMPLE, ROOT / "examples" / "negative.txt", REST).stdout
         shown = re.findall(r"^    ([VQKT]\|\S*)", self.text, re.M)
-        self.assertEqual(len(shown), 9)
+        self.assertEqual(len(shown), 12)
         self.assertLessEqual(set(shown), set(printed.decode().replace("\t", "|").splitlines()))
 
     def test_message(self):

@@ -13,8 +13,8 @@ use Rattle.arithmetic.specs.declared.energy.Kwh.{Kwh}
 use Rattle.series.specs.Sums.{sumOf}
 use Rattle.series.specs.Scan.{outputs, each}
 use Rattle.series.specs.Slices.{bothOf}
-use Rattle.series.specs.Cuts.{lowAt, slicedIn, piecesOf, cut, cutAt, cutsOf, highest}
-use Rattle.series.proofs.Whole.{above-all, cut-at, pieces-exact, pieces-at, pieces-le, pieces-32}
+use Rattle.series.specs.Cuts.{lowAt, lastOf, aboveOf, slicedIn, piecesOf, cut, cutAt, cutsOf, highest}
+use Rattle.series.proofs.Whole.{above-all, above-le, cut-at, pieces-exact, pieces-at, pieces-le, pieces-32}
 use Rattle.series.proofs.Shorts.{short-parted}
 use Rattle.series.proofs.Scanned.{each-length, outputs-length}
 use Rattle.values.specs.declared.value.Quantity.{Quantity}
@@ -22,7 +22,7 @@ use Rattle.values.specs.declared.value.Quantity.the-variants.{Setpoint, Actual,
 use Rattle.claims.specs.Blank.{kwh, noClaim}
 use Rattle.claims.specs.Powers.{next}
 use Rattle.claims.specs.Sides.{energyHeld, claimAt, joinedOf, powerIn, powersIn, lessAt, lessOf}
-use Rattle.claims.specs.Claims.{sliceEnergy, lackEnergy, claimOf, poolEnergy}
+use Rattle.claims.specs.Claims.{sliceEnergy, lackEnergy, restEnergy, claimOf, poolEnergy}
 use Rattle.claims.specs.Room.{Small}
 use Rattle.claims.specs.declared.side.Side.{Side}
 use Rattle.claims.specs.declared.claim.Claim.{Claim}
@@ -41,17 +41,22 @@ front-low upper count (suc k) h = getD-take count upper k 0 (omega arith)
 
 -- ---- the energies of a cut
 
+-- of the rest above the last limit
+module _ (seconds : ℕ) (powers limits : List ℕ) (fits : Small seconds powers) where
+  rest-is : piecesOf limits powers .rest ≡ aboveOf (lastOf limits) powers
+  rest-is = rw (pieces-exact limits powers (fits .plain))
+
+  pub rest-fits : seconds * piecesOf limits powers .rest < 2 ^ 64
+  rest-fits = rw rest-is (omega (arith, mul-le-mul-left seconds (above-le (lastOf limits) powers), fits .held))
+
+  pub rest-at : energyOf (seconds * piecesOf limits powers .rest) ≡ restEnergy seconds powers limits
+  unfolding restEnergy
+  rest-at = rw rest-is
+
 -- with no limit, the rest is the whole series
-module _ (seconds : ℕ) (powers upper : List ℕ) (fits : Small seconds powers) where
-  rest-all : piecesOf (take 0 upper) powers .rest ≡ sumOf powers
-  rest-all = rw (pieces-exact [] powers (fits .plain)) (above-all powers)
-
-  pub rest-fits : seconds * piecesOf (take 0 upper) powers .rest < 2 ^ 64
-  rest-fits = rw rest-all (fits .held)
-
-  pub rest-whole : energyOf (seconds * piecesOf (take 0 upper) powers .rest) ≡ poolEnergy seconds powers
-  unfolding poolEnergy
-  rest-whole = rw rest-all
+pub rest-whole : (seconds : ℕ) (powers : List ℕ) → restEnergy seconds powers [] ≡ poolEnergy seconds powers
+unfolding restEnergy poolEnergy
+rest-whole seconds powers = rw (above-all powers)
 
 module _ (seconds : ℕ) (powers upper : List ℕ) (count : ℕ) (fits : Small seconds powers) where
   pub sums-fit : (k : ℕ) → seconds * getD (piecesOf (take count upper) powers .sums) k 0 < 2 ^ 64

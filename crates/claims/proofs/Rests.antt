@@ -7,10 +7,10 @@ use Prim.Native.Nat.{ℕ, _+_, _-_, _^_, _<_}
 use native.Mathlib.Omega.{arith}
 use Rattle.series.specs.Sums.{sumOf}
 use Rattle.series.specs.Scan.{outputs, each}
-use Rattle.series.specs.Cuts.{cutsOf, lastOf, slicedIn, aboveOf, piecesOf}
+use Rattle.series.specs.Cuts.{cutsOf, lastOf, sliceIn, slicedIn, aboveOf, piecesOf}
 use Rattle.series.proofs.Order.{Rising}
 use Rattle.series.proofs.Order.Rising.{last, next}
-use Rattle.series.proofs.Whole.{sliceIn, sample-whole, series-whole, pieces-whole}
+use Rattle.series.proofs.Whole.{sample-whole, series-whole, pieces-whole}
 use Rattle.contracts.specs.declared.terms.Terms.{Terms}
 use Rattle.contracts.specs.Terms.{upperOf, limitsOf}
 

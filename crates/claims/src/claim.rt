@@ -20,6 +20,13 @@ pub struct Claim {
     pub gap: Kwh,
 }
 
+// What no contract claims: the energies above the last limit.
+pub struct Rest {
+    pub setpoint: Kwh,
+    pub actual: Kwh,
+    pub acceptance: Kwh,
+}
+
 // What one energy has above another, 0 where it has nothing.
 fn less(energy: Kwh, other: Kwh) -> Kwh
     ensures { λ r. ⌜ r ≡ kwh (energy .0 - other .0) ⌝ }

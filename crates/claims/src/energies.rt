@@ -1,5 +1,6 @@
 // The energies of a quarter hour in one direction, of the pool and of each contract: each quantity is cut once, at the limits of all contracts.
 use crate::claim::Claim;
+use crate::claim::Rest;
 use crate::claim::joined;
 use crate::side::Side;
 use arithmetic::energy::Kwh;
@@ -17,10 +18,22 @@ ghost use lib.ListN.{take, drop, getD};
 ghost use Rattle.series.specs.Scan.{each};
 ghost use Rattle.series.specs.Cuts.{cutAt, piecesOf};
 ghost use Rattle.values.specs.declared.value.Quantity.the-variants.{Inner, Covered};
-ghost use Rattle.claims.specs.Claims.{sliceEnergy, lackEnergy, poolEnergy, claimsOf};
+ghost use Rattle.claims.specs.Claims.{sliceEnergy, lackEnergy, poolEnergy, claimedOf};
 ghost use Rattle.claims.specs.Sides.{powersIn, energyHeld, lessOf};
-ghost use Rattle.claims.specs.Blank.{kwh, noClaims, noEnergies};
-ghost use Rattle.claims.specs.Room.{Timely, Small};
+ghost use Rattle.claims.specs.Blank.{kwh, noEnergies};
+ghost use Rattle.claims.specs.Room.{Timely, Small, Sliced};
+
+// The energy of a quantity: each contract's, and that above the last limit.
+pub struct Slices {
+    pub contracts: [Kwh; 32],
+    pub rest: Kwh,
+}
+
+// What the contracts of a direction claim, and what none does.
+pub struct Claimed {
+    pub claims: [Claim; 32],
+    pub rest: Rest,
+}
 
 fn no_energies() -> [Kwh; 32]
     ensures { λ r. ⌜ r ≡ noEnergies ⌝ }
@@ -55,6 +68,19 @@ fn excesses(sums: [u64; 32], others: [u64; 32]) -> [u64; 32]
     out
 }
 
+fn rest(setpoint: Slices, actual: Slices, acceptance: Slices) -> Rest
+    ensures { λ r. ⌜ r ≡ record { setpoint = setpoint .rest; actual = actual .rest; acceptance = acceptance .rest } ⌝ }
+{
+    let asked = setpoint.rest;
+    let delivered = actual.rest;
+    let accepted = acceptance.rest;
+    Rest {
+        setpoint: asked,
+        actual: delivered,
+        acceptance: accepted,
+    }
+}
+
 impl Side {
     // The sums of a quantity's slices, and of the rest above the last limit.
     fn pieces(self, quantity: Quantity, upper: [u64; 32], count: usize) -> Pieces
@@ -75,14 +101,16 @@ impl Side {
         energy(self.seconds * pieces.rest)
     }
 
-    // The energy of each contract's slice of a quantity.
-    fn slices(self, quantity: Quantity, upper: [u64; 32], count: usize) -> [Kwh; 32]
+    // The energy of each contract's slice of a quantity, and of the rest.
+    fn slices(self, quantity: Quantity, upper: [u64; 32], count: usize) -> Slices
         requires { ⌜ (count ≤ 32) × Timely self ⌝ }
-        ensures { λ r. ⌜ ((k : ℕ) → k < count → getD r k (kwh 0) ≡ sliceEnergy (self .seconds) (powersIn self quantity) (cutAt upper k)) ⌝ }
+        ensures { λ r. ⌜ Sliced (self .seconds) (powersIn self quantity) upper count r ⌝ }
     {
         let pieces = self.pieces(quantity, upper, count);
         let sums = pieces.sums;
-        energies(sums, self.seconds)
+        let contracts = energies(sums, self.seconds);
+        let rest = energy(self.seconds * pieces.rest);
+        Slices { contracts, rest }
     }
 
     // The energy that each contract is short of: what its slice of what is kept lacks of its slice of the channel's inner bound.
@@ -97,17 +125,24 @@ impl Side {
         energies(excesses(all, part), self.seconds)
     }
 
-    // The claims of the direction's contracts: one cut for each quantity, two for the shortfall.
-    pub(crate) fn claims(self, terms: [Terms; 32], count: usize) -> [Claim; 32]
+    // The claims of the direction's contracts, and the rest: one cut for each quantity, two for the shortfall.
+    pub(crate) fn claims(self, terms: [Terms; 32], count: usize) -> Claimed
         requires { ⌜ (count ≤ 32) × Timely self ⌝ }
-        ensures { λ r. ⌜ r ≡ claimsOf (self .seconds) (powersIn self) (take count terms) ++ drop count noClaims ⌝ }
+        ensures { λ r. ⌜ r ≡ claimedOf (self .seconds) (powersIn self) (take count terms) ⌝ }
     {
         let upper = limits(terms);
-        let setpoints = self.slices(Quantity::Setpoint, upper, count);
-        let actuals = self.slices(Quantity::Actual, upper, count);
-        let acceptances = self.slices(Quantity::Acceptance, upper, count);
-        let floors = self.slices(Quantity::Floor, upper, count);
+        let setpoint = self.slices(Quantity::Setpoint, upper, count);
+        let actual = self.slices(Quantity::Actual, upper, count);
+        let acceptance = self.slices(Quantity::Acceptance, upper, count);
+        let floor = self.slices(Quantity::Floor, upper, count);
+        let setpoints = setpoint.contracts;
+        let actuals = actual.contracts;
+        let acceptances = acceptance.contracts;
+        let floors = floor.contracts;
         let shortfalls = self.shortfalls(upper, count);
-        joined(setpoints, actuals, acceptances, floors, shortfalls, count)
+        Claimed {
+            claims: joined(setpoints, actuals, acceptances, floors, shortfalls, count),
+            rest: rest(setpoint, actual, acceptance),
+        }
     }
 }

@@ -1,5 +1,6 @@
 // The energies of a quarter hour in both directions, and the channel after it.
 use crate::claim::Claim;
+use crate::claim::Rest;
 use crate::side::Followed;
 use crate::side::Sample;
 use crate::side::Side;
@@ -23,7 +24,7 @@ ghost use Rattle.claims.specs.declared.side.Followed.{Followed};
 ghost use Rattle.claims.specs.declared.hour.Energies.{Energies};
 ghost use Rattle.claims.specs.declared.hour.Measured.{Measured};
 
-// The energies of one direction: the pool's, and each contract's claim. Under-delivery and shortfall are the pool's own, and not the contracts' sums.
+// The energies of one direction: the pool's, what no contract takes, and each contract's claim. Under-delivery and shortfall are the pool's own, and not the contracts' sums.
 pub struct Energies {
     pub setpoint: Kwh,
     pub actual: Kwh,
@@ -31,6 +32,7 @@ pub struct Energies {
     pub surplus: Kwh,
     pub shortfall: Kwh,
     pub under_delivery: Kwh,
+    pub rest: Rest,
     pub claims: [Claim; 32],
 }
 
@@ -53,7 +55,9 @@ impl Side {
         let surplus = self.energy(Quantity::Surplus);
         let shortfall = self.energy(Quantity::Shortfall);
         let under_delivery = self.energy(Quantity::UnderDelivery);
-        let claims = self.claims(terms, count);
+        let claimed = self.claims(terms, count);
+        let rest = claimed.rest;
+        let claims = claimed.claims;
         Energies {
             setpoint: setpoint,
             actual: actual,
@@ -61,6 +65,7 @@ impl Side {
             surplus: surplus,
             shortfall: shortfall,
             under_delivery: under_delivery,
+            rest: rest,
             claims: claims,
         }
     }

@@ -12,10 +12,9 @@ use Rattle.vocabulary.specs.declared.direction.Direction.the-variants.{Positive
 use Rattle.values.specs.declared.value.Quantity.{Quantity}
 use Rattle.values.specs.declared.value.Quantity.the-variants.{Acceptance, Surplus, Shortfall, UnderDelivery}
 use Rattle.values.specs.Values.{valueOf, seen, sampleOf}
-use Rattle.series.specs.Slices.{sliceOf}
 use Rattle.series.specs.Scan.{each}
 use Rattle.contracts.specs.declared.terms.Terms.{Terms}
-use Rattle.series.specs.Cuts.{Cut, cutsOf}
+use Rattle.series.specs.Cuts.{cutsOf, lastOf, sliceIn}
 use Rattle.contracts.specs.Terms.{limitsOf}
 use Rattle.shares.specs.Shares.{sharesOf}
 
@@ -23,8 +22,8 @@ use Rattle.shares.specs.Shares.{sharesOf}
 pub data Figure : Type 0 where
   -- direction, setpoint, actual, and OGA = UGA; a quantity; and its value; all powers in kW
   value : Direction → ℤ → ℤ → ℤ → Quantity → ℕ → Figure
-  -- awards and the pool's power, and the contracts' slices of it; all in kW
-  slices : List ℕ → ℕ → List ℕ → Figure
+  -- awards and the pool's power, and the contracts' slices of it and the rest; all in kW
+  slices : List ℕ → ℕ → List ℕ → ℕ → Figure
   -- gaps and the pool's surplus, and the contracts' shares of it; all in kWh
   shares : List ℕ → ℕ → List ℕ → Figure
   -- unit-seconds, and the energy in kWh
@@ -35,10 +34,6 @@ pub data Figure : Type 0 where
 -- contracts with these awards, at no price
 abbrev pub awarded : ℕ → Terms
 awarded award = record { award = award; price = pos 0 }
-
--- a contract's slice of a power
-abbrev pub slice : ℕ → Cut → ℕ
-slice power c = sliceOf (c .low) (c .high) power
 
 -- kW in units
 abbrev pub units : ℕ → ℕ
@@ -52,7 +47,8 @@ in32 ns = ns ++ replicate (32 - length ns) 0
 unfoldable pub given : Figure → List ℤ
 given (value direction setpoint actual bound quantity kw) =
     valueOf quantity (seen direction (sampleOf setpoint actual (unitsOf bound) (unitsOf bound))) ∷ []
-given (slices awards power parts) = each pos (each (slice (units power)) (cutsOf (limitsOf (each awarded awards))))
+given (slices awards power parts rest) =
+    each pos (each (sliceIn (units power)) (cutsOf (limitsOf (each awarded awards))) ++ (units power - lastOf (limitsOf (each awarded awards))) ∷ [])
 given (shares gaps surplus parts) = each pos (sharesOf surplus (in32 gaps))
 given (energy unit-seconds kwh) = pos (energyOf unit-seconds .0) ∷ []
 given (fee kwh price cents) = feeOf record { 0 = kwh } price .0 ∷ []
@@ -60,7 +56,7 @@ given (fee kwh price cents) = feeOf record { 0 = kwh } price .0 ∷ []
 -- what the rules say
 unfoldable pub said : Figure → List ℤ
 said (value direction setpoint actual bound quantity kw) = pos (units kw) ∷ []
-said (slices awards power parts) = each pos (each units parts)
+said (slices awards power parts rest) = each pos (each units parts ++ units rest ∷ [])
 said (shares gaps surplus parts) = each pos (in32 parts)
 said (energy unit-seconds kwh) = pos kwh ∷ []
 said (fee kwh price cents) = cents ∷ []
@@ -84,9 +80,9 @@ figures =
     ∷ value Negative (minus 10000) (minus 9000) (minus 10000) UnderDelivery 500
     ∷ value Negative (minus 10000) (minus 9000) (minus 10000) Shortfall 500
     -- awards 6,000 and 6,000
-    ∷ slices (6000 ∷ 6000 ∷ []) 9800 (6000 ∷ 3800 ∷ [])
-    ∷ slices (6000 ∷ 6000 ∷ []) 6000 (6000 ∷ 0 ∷ [])
-    ∷ slices (6000 ∷ 6000 ∷ []) 13000 (6000 ∷ 6000 ∷ [])
+    ∷ slices (6000 ∷ 6000 ∷ []) 9800 (6000 ∷ 3800 ∷ []) 0
+    ∷ slices (6000 ∷ 6000 ∷ []) 6000 (6000 ∷ 0 ∷ []) 0
+    ∷ slices (6000 ∷ 6000 ∷ []) 13000 (6000 ∷ 6000 ∷ []) 1000
     -- gaps and M, which is the surplus where that is below F; with F 0 there are no shares, whatever the surplus
     ∷ shares (1 ∷ 1 ∷ 1 ∷ []) 2 (1 ∷ 1 ∷ 0 ∷ [])
     ∷ shares (5 ∷ 3 ∷ 0 ∷ []) 4 (3 ∷ 1 ∷ 0 ∷ [])

@@ -12,7 +12,7 @@ use Rattle.arithmetic.specs.Whole.{leastOf}
 use Rattle.series.specs.Sums.{overOf, sumOf}
 use Rattle.series.specs.Slices.{sliceOf, slicedOf}
 use Rattle.series.specs.Scan.{outputs, each}
-use Rattle.series.specs.Cuts.{Cut, cut, highest, cutsOf, cutAt, lastOf, slicedIn, aboveOf, sumHeld, noSums, piecesOf}
+use Rattle.series.specs.Cuts.{Cut, cut, highest, cutsOf, cutAt, lastOf, sliceIn, slicedIn, aboveOf, sumHeld, noSums, piecesOf}
 use Rattle.series.proofs.Lists.{zeros}
 use Rattle.series.proofs.Sums.{over-append, over-le, sum-zeros, sliced-le, sliced-exact}
 use Rattle.series.proofs.Order.{Rising}
@@ -28,9 +28,6 @@ abbrev lastFrom : ℕ → List ℕ → ℕ
 lastFrom low limits = getD (low ∷ limits) (length limits) 0
 
 -- ---- a sample
-
-abbrev pub sliceIn : ℕ → Cut → ℕ
-sliceIn v c = sliceOf (c .low) (c .high) v
 
 sample-from : {low : ℕ} {limits : List ℕ} (v : ℕ) → Rising low limits → sumOf (each (sliceIn v) (cutsFrom low limits)) + (v - lastFrom low limits) ≡ v - low
 unfolding overOf outputs each sliceOf leastOf

@@ -3,7 +3,7 @@ use Prim.Native.Nat.{ℕ, _-_, _%_, _^_}
 use mathlib.Core.List.{List, _∷_, _++_}
 use lib.ListN.{length, drop, getD, replicate}
 use Rattle.series.specs.Sums.{overOf}
-use Rattle.series.specs.Slices.{slicedOf}
+use Rattle.series.specs.Slices.{sliceOf, slicedOf}
 use Rattle.series.specs.Scan.{outputs, each}
 use Rattle.series.specs.declared.cutting.Pieces.{Pieces}
 
@@ -36,7 +36,11 @@ lastOf limits = lowAt limits (length limits)
 abbrev pub cutAt : List ℕ → ℕ → Cut
 cutAt limits k = cut (lowAt limits k) (getD limits k 0)
 
--- ---- the pieces of a series
+-- ---- the pieces of a power, and of a series
+
+-- the slice of a power
+abbrev pub sliceIn : ℕ → Cut → ℕ
+sliceIn power c = sliceOf (c .low) (c .high) power
 
 -- the sum of a slice
 abbrev pub slicedIn : List ℕ → Cut → ℕ

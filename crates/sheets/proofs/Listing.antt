@@ -5,7 +5,7 @@ use mathlib.Core.List.{[], _∷_}
 use lib.IntN.{pos}
 use Rattle.print.specs.Decimal.{digitsIn, digits, numberText, twoDigits, fourDigits, dateText}
 use Rattle.print.specs.Fields.{tabbed}
-use Rattle.sheets.specs.Sheet.{lineText, headText, poolText, energiesOf, contractText, contractsText, sideText, quarterText, totalText, refusalText}
+use Rattle.sheets.specs.Sheet.{lineText, headText, poolText, energiesOf, restOf, contractText, contractsText, sideText, quarterText, totalText, refusalText}
 use Rattle.arithmetic.specs.declared.energy.Kwh.{Kwh}
 use Rattle.arithmetic.specs.declared.money.Cents.{Cents}
 use Rattle.vocabulary.specs.declared.interval.Interval.the-variants.{Four}
@@ -33,7 +33,7 @@ figuresOf so is ak mi zu un ab fee penalty =
 
 abbrev poolOf : ℕ → ℕ → ℕ → ℕ → ℕ → ℕ → ℕ → ℕ → Pool
 poolOf so is ak me mi zu un ab =
-    record { setpoint = kwh so; actual = kwh is; acceptance = kwh ak; surplus = kwh me; shortfall = kwh mi; share = kwh zu; «under_delivery» = kwh un; billed = kwh ab }
+    record { setpoint = kwh so; actual = kwh is; acceptance = kwh ak; surplus = kwh me; shortfall = kwh mi; share = kwh zu; «under_delivery» = kwh un; billed = kwh ab; rest = record { setpoint = kwh 0; actual = kwh 0; acceptance = kwh 0 } }
 
 abbrev positive : Sheet
 positive =
@@ -49,17 +49,17 @@ positive =
 abbrev negative : Sheet
 negative = record { pool = poolOf 0 0 0 0 0 0 0 0; lines = []; count = 0 }
 
-pub listing-head : headText (record { year = 2017; month = 2; day = 20 }) Four 5000 ≡ 86 ∷ 9 ∷ 49 ∷ 9 ∷ 50 ∷ 48 ∷ 49 ∷ 55 ∷ 45 ∷ 48 ∷ 50 ∷ 45 ∷ 50 ∷ 48 ∷ 9 ∷ 52 ∷ 9 ∷ 53 ∷ 48 ∷ 48 ∷ 48 ∷ 10 ∷ []
+pub listing-head : headText (record { year = 2017; month = 2; day = 20 }) Four 5000 ≡ 86 ∷ 9 ∷ 50 ∷ 9 ∷ 50 ∷ 48 ∷ 49 ∷ 55 ∷ 45 ∷ 48 ∷ 50 ∷ 45 ∷ 50 ∷ 48 ∷ 9 ∷ 52 ∷ 9 ∷ 53 ∷ 48 ∷ 48 ∷ 48 ∷ 10 ∷ []
 unfolding headText lineText tabbed dateText fourDigits twoDigits digits digitsIn
 listing-head = refl
 
 pub listing-quarter : quarterText 0 (record { positive = positive; negative = negative })
     ≡ 81 ∷ 9 ∷ 48 ∷ 9 ∷ 80 ∷ 9 ∷ 50 ∷ 53 ∷ 48 ∷ 48 ∷ 9 ∷ 50 ∷ 52 ∷ 56 ∷ 57 ∷ 9 ∷ 50 ∷ 52 ∷ 52 ∷ 52 ∷ 9 ∷ 52 ∷ 52 ∷ 9 ∷ 53 ∷ 54 ∷ 9 ∷ 52 ∷ 52 ∷ 9 ∷ 48 ∷ 9
-    ∷ 50 ∷ 52 ∷ 56 ∷ 56 ∷ 10 ∷ 75 ∷ 9 ∷ 48 ∷ 9 ∷ 80 ∷ 9 ∷ 65 ∷ 49 ∷ 9 ∷ 49 ∷ 53 ∷ 48 ∷ 48 ∷ 9 ∷ 49 ∷ 53 ∷ 48 ∷ 48 ∷ 9 ∷ 49 ∷ 53 ∷ 48 ∷ 48 ∷ 9 ∷ 48
+    ∷ 50 ∷ 52 ∷ 56 ∷ 56 ∷ 9 ∷ 48 ∷ 9 ∷ 48 ∷ 9 ∷ 48 ∷ 10 ∷ 75 ∷ 9 ∷ 48 ∷ 9 ∷ 80 ∷ 9 ∷ 65 ∷ 49 ∷ 9 ∷ 49 ∷ 53 ∷ 48 ∷ 48 ∷ 9 ∷ 49 ∷ 53 ∷ 48 ∷ 48 ∷ 9 ∷ 49 ∷ 53 ∷ 48 ∷ 48 ∷ 9 ∷ 48
     ∷ 9 ∷ 48 ∷ 9 ∷ 48 ∷ 9 ∷ 49 ∷ 53 ∷ 48 ∷ 48 ∷ 9 ∷ 55 ∷ 53 ∷ 48 ∷ 48 ∷ 9 ∷ 48 ∷ 10 ∷ 75 ∷ 9 ∷ 48 ∷ 9 ∷ 80 ∷ 9 ∷ 65 ∷ 50 ∷ 9 ∷ 49 ∷ 48 ∷ 48 ∷ 48 ∷ 9
     ∷ 57 ∷ 56 ∷ 57 ∷ 9 ∷ 57 ∷ 52 ∷ 52 ∷ 9 ∷ 53 ∷ 54 ∷ 9 ∷ 52 ∷ 52 ∷ 9 ∷ 48 ∷ 9 ∷ 57 ∷ 56 ∷ 56 ∷ 9 ∷ 55 ∷ 57 ∷ 48 ∷ 52 ∷ 9 ∷ 48 ∷ 10 ∷ 81 ∷ 9 ∷ 48 ∷ 9
-    ∷ 78 ∷ 9 ∷ 48 ∷ 9 ∷ 48 ∷ 9 ∷ 48 ∷ 9 ∷ 48 ∷ 9 ∷ 48 ∷ 9 ∷ 48 ∷ 9 ∷ 48 ∷ 9 ∷ 48 ∷ 10 ∷ []
-unfolding quarterText sideText contractsText contractText energiesOf poolText lineText tabbed numberText digits digitsIn
+    ∷ 78 ∷ 9 ∷ 48 ∷ 9 ∷ 48 ∷ 9 ∷ 48 ∷ 9 ∷ 48 ∷ 9 ∷ 48 ∷ 9 ∷ 48 ∷ 9 ∷ 48 ∷ 9 ∷ 48 ∷ 9 ∷ 48 ∷ 9 ∷ 48 ∷ 9 ∷ 48 ∷ 10 ∷ []
+unfolding quarterText sideText contractsText contractText energiesOf restOf poolText lineText tabbed numberText digits digitsIn
 listing-quarter = refl
 
 pub listing-total : totalText 1 (cents 15404) (cents 0) ≡ 84 ∷ 9 ∷ 49 ∷ 9 ∷ 49 ∷ 53 ∷ 52 ∷ 48 ∷ 52 ∷ 9 ∷ 48 ∷ 10 ∷ []

@@ -10,6 +10,44 @@ pub fn random(random: &mut Random, size: i64, count: usize) -> Vec<(i64, i64)> {
     setpoints.into_iter().zip(actuals).collect()
 }
 
+/// Powers about the last limits of both directions, positive first: what lies
+/// above one falls to no contract. Each is held for a while, in some courses
+/// from the first sample to the last, so that the channel lies there, too, and
+/// sums come to half a kWh.
+pub fn about_limits(random: &mut Random, limits: [i64; 2], count: usize) -> Vec<(i64, i64)> {
+    let [positive, negative] = limits;
+    let whole = random.once_in(4);
+    let mut course: Vec<(i64, i64)> = Vec::with_capacity(count);
+    while course.len() < count {
+        let (sign, limit) = random.pick(&[(1, positive), (-1, negative)]);
+        let setpoint = about(random, limit);
+        let actual = match random.below(4) {
+            0 => setpoint,
+            1 => within_range(setpoint * random.between(90, 110) / 100),
+            _ => about(random, limit),
+        };
+        let length = if whole {
+            count
+        } else {
+            random.between(1, 200) as usize
+        };
+        let end = count.min(course.len() + length);
+        course.resize(end, (sign * setpoint, sign * actual));
+    }
+    course
+}
+
+/// A power about a limit: at it, a little or far above it, or below.
+fn about(random: &mut Random, limit: i64) -> i64 {
+    let above = match random.below(6) {
+        0 => random.between(-1, 1),
+        1 => random.between(1, 8),
+        2 => -random.between(0, limit),
+        _ => random.between(1, limit.max(1_000)),
+    };
+    (limit + above).clamp(0, LARGEST_POWER)
+}
+
 fn within_range(power: i64) -> i64 {
     power.clamp(-LARGEST_POWER, LARGEST_POWER)
 }

@@ -49,7 +49,16 @@ impl Plan {
         contracts.extend(list(random, b'N', size));
         mix_directions(random, &mut contracts);
         make_identifiers_differ(random, &mut contracts);
-        let samples = curves::random(random, size, count);
+        let limits = last_limits(&contracts);
+        let samples = match random.below(6) {
+            0 | 1 => curves::about_limits(random, limits, count),
+            // Any course, of which about half lies above a last limit.
+            2 | 3 => {
+                let size = 2 * random.pick(&limits).clamp(1, LARGEST_POWER / 2);
+                curves::random(random, size, count)
+            }
+            _ => curves::random(random, size, count),
+        };
         Plan {
             header,
             contracts,
@@ -85,6 +94,16 @@ pub fn contract_line(contract: &Contract) -> Vec<u8> {
     line.extend(&contract.identifier);
     line.extend(format!("\t{}\t{}", contract.award, contract.price).bytes());
     line
+}
+
+/// The sums of the awards of both directions, positive first.
+fn last_limits(contracts: &[Contract]) -> [i64; 2] {
+    [b'P', b'N'].map(|direction| {
+        let list = contracts
+            .iter()
+            .filter(|contract| contract.direction == direction);
+        list.map(|contract| contract.award).sum()
+    })
 }
 
 fn header(random: &mut Random) -> Header {
@@ -291,4 +310,39 @@ fn tolerance_fan(random: &mut Random, count: usize) -> (Vec<Contract>, Vec<(i64,
         })
         .collect();
     (contracts, samples)
+}
+
+#[cfg(test)]
+mod tests {
+    use super::*;
+
+    /// In how many of 2,000 plans there are samples of a kind, in a direction
+    /// with contracts: the kind tells from setpoint, actual and last limit, all
+    /// three as the direction sees them.
+    fn plans_with(positive: bool, kind: impl Fn(i64, i64, i64) -> bool) -> usize {
+        let sign = if positive { 1 } else { -1 };
+        let has_kind = |seed: &u64| {
+            let plan = Plan::random(&mut Random::new(*seed));
+            let limit = last_limits(&plan.contracts)[usize::from(!positive)];
+            let mut samples = plan.samples.iter();
+            limit > 0
+                && samples.any(|(setpoint, actual)| kind(sign * setpoint, sign * actual, limit))
+        };
+        (0..2_000).filter(has_kind).count()
+    }
+
+    #[test]
+    fn powers_often_lie_above_the_last_limit() {
+        for positive in [true, false] {
+            let plans = |kind: fn(i64, i64, i64) -> bool| plans_with(positive, kind);
+            assert!(plans(|setpoint, _, limit| setpoint > limit) > 500);
+            assert!(plans(|_, actual, limit| actual > limit) > 500);
+            assert!(plans(|setpoint, actual, limit| setpoint.min(actual) > limit) > 500);
+            // Exactly at it, and one above.
+            assert!(plans(|setpoint, _, limit| setpoint == limit) > 100);
+            assert!(plans(|_, actual, limit| actual == limit) > 100);
+            assert!(plans(|setpoint, _, limit| setpoint == limit + 1) > 100);
+            assert!(plans(|_, actual, limit| actual == limit + 1) > 100);
+        }
+    }
 }

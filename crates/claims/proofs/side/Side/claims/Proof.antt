@@ -1,8 +1,12 @@
 -- `claims::side::Side::claims` meets its contract. Each quantity is cut for all contracts at once, and the claims are made of the energies place by place (Joining).
 -- Assumes nothing.
-use Rattle.claims.proofs.Cuts.{same-cuts, cuts-enough}
-use Rattle.claims.proofs.Joining.{joined-claims}
+use mathlib.Core.Path.{_≡_}
+use lib.ListN.{length, take}
+use lib.Seq.{length-take-le}
+use Rattle.claims.specs.Claims.{restOf, claimedOf}
 use Rattle.claims.specs.Sides.{powersIn}
+use Rattle.claims.proofs.Cuts.{same-limits, cuts-enough}
+use Rattle.claims.proofs.Joining.{joined-claims}
 use Rattle.claims.proofs.side.Side.claims.Statement.{statement}
 use native.Mathlib.Omega.{arith}
 use borrow.Author.Needs.{needs}
@@ -29,31 +33,53 @@ shortfalls-requires c κs = search needs
 joined-requires : tie.Need-joined-requires
 joined-requires c κs = search needs
 
+rest-requires : tie.Need-rest-requires
+rest-requires c κs = search needs
+
 returns : tie.Need-returns
+unfolding claimedOf restOf
 returns c =
-    let shortfall = c .before in
-    let floor = shortfall .before in
+    let shortfall = c .before .before in
+    let floor = shortfall .before .before .before .before .before in
     let acceptance = floor .before in
     let actual = acceptance .before in
     let setpoint = actual .before in
     let upper = setpoint .before in
     let s = upper .before in
     let a = s .args in
+    let n : length (take (a .count) (a .terms)) ≡ a .count = length-take-le (a .count) (a .terms) (omega (arith, s .good, s .pre .0)) in
     rw (
-      c .joined .ensures,
-      joined-claims (a .self .seconds) (powersIn (a .self)) (upper .limits .result) (a .count) (setpoint .slices .result) (actual .slices2 .result) (acceptance .slices3 .result)
-          (floor .slices4 .result) (shortfall .shortfalls .result) (rw (upper .limits .ensures) (cuts-enough (a .terms) (a .count) (omega (arith, s .good, s .pre .0))))
-          (omega (arith, setpoint .slices .ok, s .pre .0))
+      c .rest .ensures,
+      setpoint .slices .ensures .rest,
+      actual .slices2 .ensures .rest,
+      acceptance .slices3 .ensures .rest,
+      c .before .joined .ensures,
+      joined-claims (a .self .seconds) (powersIn (a .self)) (upper .limits .result) (a .count) (setpoint .slices .result .contracts) (actual .slices2 .result .contracts)
+          (acceptance .slices3 .result .contracts) (floor .slices4 .result .contracts) (shortfall .shortfalls .result)
+          (rw (upper .limits .ensures) (cuts-enough (a .terms) (a .count) (omega (arith, s .good, s .pre .0))))
+          (omega (arith, setpoint .slices .ensures .places, s .pre .0))
           (record {
-            setpoint = setpoint .slices .ensures;
-            actual = actual .slices2 .ensures;
-            acceptance = acceptance .slices3 .ensures;
-            floor = floor .slices4 .ensures;
+            setpoint = setpoint .slices .ensures .contracts;
+            actual = actual .slices2 .ensures .contracts;
+            acceptance = acceptance .slices3 .ensures .contracts;
+            floor = floor .slices4 .ensures .contracts;
             shortfall = shortfall .shortfalls .ensures;
           }),
       upper .limits .ensures,
-      same-cuts (a .terms) (a .count),
+      same-limits (a .terms) (a .count),
+      n,
     )
 
 pub claims-spec : {M : Type 1} → statement M
-claims-spec = tie.close (tie.spec limits-requires slices-requires slices-requires-2 slices-requires-3 slices-requires-4 shortfalls-requires joined-requires returns)
+claims-spec =
+    tie.close
+    (tie.spec
+    limits-requires
+    slices-requires
+    slices-requires-2
+    slices-requires-3
+    slices-requires-4
+    shortfalls-requires
+    joined-requires
+    rest-requires
+    returns)

@@ -1,11 +1,7 @@
 -- `claims::side::Side::energies` meets its contract.
 -- Assumes nothing.
-use Rattle.claims.specs.Claims.{energiesOf}
+use Rattle.claims.specs.Claims.{energiesOf, claimedOf}
 use Rattle.claims.proofs.side.Side.energies.Statement.{statement}
-use native.Mathlib.Omega.{arith}
-use lib.Seq.{length-take-le}
-use lib.ListN.{length, take}
-use mathlib.Core.Path.{_≡_}
 use Rattle.claims.proofs.side.Side.energies.Tie as tie
 
 energy-requires : tie.Need-energy-requires
@@ -30,17 +26,15 @@ claims-requires : tie.Need-claims-requires
 claims-requires c κs = c .before .before .before .before .before .before .pre
 
 returns : tie.Need-returns
-unfolding energiesOf
+unfolding energiesOf claimedOf
 returns c =
-    let under-delivery = c .before in
+    let claimed = c .before .before in
+    let under-delivery = claimed .before in
     let shortfall = under-delivery .before in
     let surplus = shortfall .before in
     let acceptance = surplus .before in
     let actual = acceptance .before in
     let setpoint = actual .before in
-    let s = setpoint .before in
-    let a = s .args in
-    let n : length (take (a .count) (a .terms)) ≡ a .count = length-take-le (a .count) (a .terms) (omega (arith, s .good, s .pre .0)) in
     rw (
       setpoint .energy .ensures,
       actual .energy2 .ensures,
@@ -48,8 +42,7 @@ returns c =
       surplus .energy4 .ensures,
       shortfall .energy5 .ensures,
       under-delivery .energy6 .ensures,
-      c .claims .ensures,
-      n,
+      claimed .claims .ensures,
     )
 
 pub energies-spec : {M : Type 1} → statement M
