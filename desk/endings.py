@@ -1,12 +1,13 @@
 """How a run of the front end ends: one table of exit statuses, and the exceptions that lead there."""
 
-ACCEPTED, REFUSED, TROUBLE, NOT_BUILT = range(4)
+ACCEPTED, REFUSED, TROUBLE, NOT_BUILT, CHANGED = range(5)
 
 STATUSES = (
     (ACCEPTED, "done: the input was accepted"),
     (REFUSED, "the input was refused; standard error says at which line, why and how to mend it"),
     (TROUBLE, "misuse, or an input or output that could not be read or written"),
     (NOT_BUILT, "not built: no toolchain, a proof that fails, or a folder that can't be written to"),
+    (CHANGED, "a sheet was changed after it was printed: explain found a difference above the bound"),
 )
 
 

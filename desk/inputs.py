@@ -88,6 +88,17 @@ class Input:
         self._keep(block)
         return block
 
+    def blocks(self):
+        """the blocks to the end, each waited for"""
+        while True:
+            block = self.read()
+            if block is None:
+                select.select([self.descriptor], [], [])
+            elif block:
+                yield block
+            else:
+                return
+
     def _keep(self, block):
         if len(self.head) < HEAD:
             self.head += block[:HEAD - len(self.head)]

@@ -12,13 +12,13 @@ def refusal(source, refused):
     if line:
         cause = cause_of(refused.number, line, Before(source, refused.line))
         mend = cause.mend or remedy(refused.number)
-        parts += [_shown(line), _field(line, cause.field)]
+        parts += [shown(line), _field(line, cause.field)]
         parts += [cause.words and f"cause: {cause.words}", f"to mend it: {mend}"]
     return "\n  ".join(filter(None, parts))
 
 
-def _shown(line):
-    """the line itself"""
+def shown(line):
+    """the line itself, or None where there is none"""
     if not line.complete:
         return f"line {line.number} (no line end): {shortened(line.text, line.length)}" if line.length else None
     return f"line {line.number}: {shortened(line.text, line.length)}" if line.length else f"line {line.number} is empty"

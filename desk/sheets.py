@@ -42,15 +42,20 @@ def read(text):
             if fields[0] != FORMAT:
                 raise Trouble(f"the sheet has format {fields[0]}: only format {FORMAT} is read here")
             heading = fields[1], int(fields[2]), int(fields[3])
-        elif kind == "Q":
-            figures = tuple(map(int, fields[2:]))
-            rows.append(Row(int(fields[0]), fields[1], "", (*figures[:FEE], *NO_MONEY, *figures[FEE:])))
-        elif kind == "K":
-            figures = tuple(map(int, fields[3:]))
-            rows.append(Row(int(fields[0]), fields[1], fields[2], (*figures[:ME], None, *figures[ME:], *NO_REST)))
+        elif kind in ("Q", "K"):
+            rows.append(row_of(kind, fields))
         elif kind == "T":
             ending = tuple(map(int, fields))
     return Sheet(*heading, rows, *ending)
+
+
+def row_of(kind, fields):
+    """a line Q or K, from its fields"""
+    if kind == "Q":
+        figures = tuple(map(int, fields[2:]))
+        return Row(int(fields[0]), fields[1], "", (*figures[:FEE], *NO_MONEY, *figures[FEE:]))
+    figures = tuple(map(int, fields[3:]))
+    return Row(int(fields[0]), fields[1], fields[2], (*figures[:ME], None, *figures[ME:], *NO_REST))
 
 
 def csv(sheet, separator):
@@ -58,35 +63,37 @@ def csv(sheet, separator):
     lead = [sheet.day, sheet.interval, sheet.lot]
     for row in sheet.rows:
         kind = "K" if row.contract else "Q"
-        yield _joined([kind, *lead, row.quarter, row.direction, row.contract, *row.figures], separator)
-    yield _joined(["T", *lead, None, None, None, *[None] * FEE, sheet.fees, sheet.penalties, *NO_REST], separator)
+        yield joined([kind, *lead, row.quarter, row.direction, row.contract, *row.figures], separator)
+    yield joined(["T", *lead, None, None, None, *[None] * FEE, sheet.fees, sheet.penalties, *NO_REST], separator)
 
 
 def csv_header(separator):
     """the names of the columns of the csv"""
     figures = [f"{column.short or column.name} {column.unit}" for column in COLUMNS]
     lead = ["line", "day", "interval s", "lot kW", "quarter hour", "direction", "contract"]
-    return _joined([*lead, *figures], separator)
+    return joined([*lead, *figures], separator)
 
 
-def _joined(cells, separator):
+def joined(cells, separator):
+    """a row for a spreadsheet; a cell of None is empty"""
     return separator.join("" if cell is None else str(cell) for cell in cells) + "\n"
 
 
 def table(sheet):
     """the sheet with aligned columns, a part for each direction with its sums, and the sums of the whole"""
-    yield f"Settlement of {sheet.day}: {quarter_hours(sheet)}, interval {sheet.interval} s, "
+    yield f"Settlement of {sheet.day}: {quarter_hours(sheet.quarters)}, interval {sheet.interval} s, "
     yield f"minimum lot {grouped(sheet.lot)} kW\n"
     for direction, name in DIRECTIONS.items():
         rows = [row for row in sheet.rows if row.direction == direction]
         yield f"\n{name}\n\n"
-        yield from _aligned([*_headings(), *map(_cells, rows), ["sum", "pool", *_sums(rows)]])
+        lines = [*_headings(), *map(_cells, rows), ["sum", "pool", *_sums(rows)]]
+        yield from aligned(lines, words=[1], rules=[3, len(lines) - 1])
     yield f"\nIn all: fees {grouped(sheet.fees)} cent, penalties {grouped(sheet.penalties)} cent.\n\n{NOTE}"
 
 
-def quarter_hours(sheet):
-    """how many quarter hours a sheet has, in words"""
-    return "1 quarter hour" if sheet.quarters == 1 else f"{sheet.quarters} quarter hours"
+def quarter_hours(count):
+    """so many quarter hours, in words"""
+    return "1 quarter hour" if count == 1 else f"{count} quarter hours"
 
 
 def _headings():
@@ -110,12 +117,14 @@ def _sums(rows):
         yield grouped(sum(row.figures[place] for row in wanted))
 
 
-def _aligned(lines):
-    """words to the left, figures to the right, a rule below the headings and above the sums"""
+def aligned(lines, words, rules):
+    """Lines of cells in columns, figures to the right. The places of columns of words, which go to the left, are given,
+    and those of the lines that a rule goes above."""
     widths = [max(map(len, column)) for column in zip(*lines)]
-    rule = "  ".join("-" * width for width in widths) + "\n"
+    rule = "  ".join("-" * width for width in widths).rstrip() + "\n"
     for place, line in enumerate(lines):
-        if place in (3, len(lines) - 1):
+        if place in rules:
             yield rule
-        quarter, contract, *figures = (cell.rjust(width) for cell, width in zip(line, widths))
-        yield "  ".join([quarter, contract.strip().ljust(widths[1]), *figures]).rstrip() + "\n"
+        cells = (cell.ljust(width) if column in words else cell.rjust(width)
+                 for column, (cell, width) in enumerate(zip(line, widths)))
+        yield "  ".join(cells).rstrip() + "\n"

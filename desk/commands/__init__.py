@@ -5,4 +5,5 @@
 COMMANDS = {
     "settle": "settle inputs and print their sheets",
     "inspect": "say what is in an input, or why it is refused, without a sheet",
+    "explain": "say where the lines and the rest of a sheet differ from the pool's figures, and how far they may",
 }

@@ -39,7 +39,7 @@ def _described(source, sheet):
     for direction in ("P", "N"):
         yield f"  contracts  {direction}: {_contracts(before.of_direction(direction.encode()))}\n"
     yield f"  samples    {grouped(before.samples)}\n"
-    yield f"  covered    {grouped(sheet.quarters * 15)} minutes, {sheets.quarter_hours(sheet)}\n"
+    yield f"  covered    {grouped(sheet.quarters * 15)} minutes, {sheets.quarter_hours(sheet.quarters)}\n"
     more = ", and more follows that is not read" if source.goes_on_after_end() else ""
     yield f"  end        line {grouped(end)}{more}\n"
 

@@ -4,7 +4,8 @@ import os
 from desk import programs, sheets
 from desk.building import ensure_built
 from desk.endings import ACCEPTED, REFUSED, Trouble
-from desk.inputs import Input, called, is_file, look_at
+from desk.inputs import Input, called, is_file
+from desk.options import add_separator, input_paths, separator
 from desk.outputs import opened
 from desk.refusals import help_table
 from desk.streams import say
@@ -25,23 +26,16 @@ def arguments(parser):
                       help="print a table that people can read")
     form.add_argument("--csv", dest="form", action="store_const", const="csv",
                       help="print rows for a spreadsheet, without decimals")
-    parser.add_argument("--separator", choices=[";", ","],
-                        help="the sign between the cells of --csv: ; (unless given) or ,")
+    add_separator(parser)
     parser.epilog = f"{help_table()}\n\n{parser.epilog}"
 
 
 def run(options):
     """settles each input; the exit status is that of the worst of them"""
-    paths = options.files or ["-"]
-    if options.separator and options.form != "csv":
-        raise Trouble("--separator goes with --csv")
-    if paths.count("-") > 1:
-        raise Trouble("standard input can be read once only")
-    for path in paths:
-        look_at(path)
-    plan = _plan(options, paths)
+    sign = separator(options, options.form == "csv")
+    plan = _plan(options, input_paths(options.files))
     ensure_built("settle")
-    return max(_settle_to(place, inputs, options) for place, inputs in plan)
+    return max(_settle_to(place, inputs, options.form, sign) for place, inputs in plan)
 
 
 def _plan(options, paths):
@@ -75,19 +69,19 @@ def _plan_for_folder(options, paths):
     return list(plan.items())
 
 
-def _settle_to(place, paths, options):
-    """settles inputs to one output"""
-    status, separator = ACCEPTED, options.separator or ";"
-    heading = sheets.csv_header(separator) if options.form == "csv" else ""
+def _settle_to(place, paths, form, sign):
+    """settles inputs to one output, in a form, with a sign between the cells of rows"""
+    status = ACCEPTED
+    heading = sheets.csv_header(sign) if form == "csv" else ""
     with opened(place) as output:
         for path in paths:
-            sheet = _settle(path, output.write if options.form == "sheet" else None)
+            sheet = _settle(path, output.write if form == "sheet" else None)
             if sheet is None:
                 status = REFUSED
-            elif options.form == "table":
+            elif form == "table":
                 output.write("".join(sheets.table(sheets.read(sheet))).encode())
-            elif options.form == "csv":
-                output.write((heading + "".join(sheets.csv(sheets.read(sheet), separator))).encode())
+            elif form == "csv":
+                output.write((heading + "".join(sheets.csv(sheets.read(sheet), sign))).encode())
                 heading = ""
         if status == ACCEPTED:
             output.finish()

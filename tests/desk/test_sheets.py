@@ -116,6 +116,23 @@ class Csv(FrontEnd):
         self.assertEqual(sorted(os.listdir(self.folder)), ["example.csv", "example.table"])
 
 
+class Explained(FrontEnd):
+    """What settle prints can be explained, joined or refused as it may be."""
+
+    def test_from_a_pipe(self):
+        answer = self.shell('"$fireboxer" settle --join "$example" "$day" | "$fireboxer" explain')
+        self.assertEqual((answer.returncode, answer.stderr), (0, ""))
+        names = re.findall(r"^standard input(.*), 2017-02-20", answer.stdout.decode(), re.M)
+        self.assertEqual(names, ["", " from line 7"])
+
+    def test_refused(self):
+        for data in (b"", GOOD[:1000], GOOD[:-2]):
+            sheet = self.call("settle", input=data).stdout
+            answer = self.call("explain", input=sheet)
+            self.assertEqual(answer.returncode, 1)
+            self.assertIn("the sheet ends in a refusal", answer.stderr)
+
+
 class Format(unittest.TestCase):
     """A sheet of another format would have its figures in other columns."""
 

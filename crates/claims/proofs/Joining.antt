@@ -81,7 +81,7 @@ module _ (seconds : ℕ) (powers upper : List ℕ) (count : ℕ) (fits : Small s
 -- ---- what is short
 
 -- what stands at a place of outputs that go by it
-along : {X Y : Type 0} (f : ℕ → X → Y) (i : ℕ) (l : List X) (k : ℕ) (x : X) (y : Y) → k < length l → getD (outputs next f i l) k y ≡ f (i + k) (getD l k x)
+pub along : {X Y : Type 0} (f : ℕ → X → Y) (i : ℕ) (l : List X) (k : ℕ) (x : X) (y : Y) → k < length l → getD (outputs next f i l) k y ≡ f (i + k) (getD l k x)
 unfolding outputs
 along f i [] k x y h = absurd (omega arith)
 along f i (z ∷ l) zero x y h = rw (add-zero i)
