@@ -8,7 +8,9 @@ import unittest
 
 from common import ROOT, FrontEnd, processes
 
-NO_TOOLCHAIN = {"PATH": "/nonexistent"}
+# A machine without the toolchain: all folders of the search path but those that have it.
+NO_TOOLCHAIN = {"PATH": os.pathsep.join(folder for folder in os.environ["PATH"].split(os.pathsep)
+                                        if not os.path.exists(os.path.join(folder, "rt")))}
 
 CODE = """use libc::STDOUT_FILENO;
 
@@ -92,7 +94,10 @@ class Stale(Repository):
         os.utime(self.folder / "crates.txt")
         self.assertEqual(self.settle().stderr, "")
         answer = self.call(self.command, "settle", "/dev/null", command=sys.executable, env=NO_TOOLCHAIN)
-        self.assertEqual((answer.returncode, answer.stderr), (0, ""))
+        if os.uname().machine == "x86_64":
+            self.assertEqual((answer.returncode, answer.stderr), (0, ""))
+        else:  # the emulator that runs the program comes with the toolchain
+            self.fails("the Rattle toolchain (command rt) is missing", answer)
         (self.folder / "crates" / "settle" / "must-fail").mkdir()
         (self.folder / "crates" / "settle" / "must-fail" / "some.edit").write_text("an edit is no source")
         self.assertEqual(self.settle().stderr, "")
