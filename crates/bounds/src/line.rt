@@ -89,11 +89,7 @@ fn bounded(
         ugas[i] = below;
         i += 1;
     }
-    Led {
-        last: last,
-        ogas: ogas,
-        ugas: ugas,
-    }
+    Led { last, ogas, ugas }
 }
 
 // OGA and UGA along the first `count` setpoints after the first 302 of a line, of 900 at most, from the bounds before them.

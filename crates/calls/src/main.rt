@@ -17,13 +17,12 @@ mod answer; // what is written
 mod script; // what the fields of a line say
 
 use arithmetic::money::Cents;
-use contracts::books::Books;
 use libc::STDIN_FILENO;
 use quarter::sheet::Sheets;
 use quarter::sheet::no_sheets;
 use settlement::run::Answer;
-use settlement::run::Heading;
 use settlement::run::Run;
+use settlement::run::Taken;
 use sheets::Printed;
 use sheets::print_head;
 use sheets::print_quarter;
@@ -38,20 +37,6 @@ use vocabulary::sample::Sample;
 ghost use Prim.Native.Nat.{_≤_};
 ghost use lib.ListN.{length};
 
-// What is held from call to call: the run at hand, and the sheets of the last taking. Each function is handed no more of it than it needs.
-struct Held {
-    run: Run,
-    sheets: Sheets,
-}
-
-// A run of which no quarter hour was taken yet.
-fn untaken(run: Run) -> Held {
-    Held {
-        run: run,
-        sheets: no_sheets(),
-    }
-}
-
 fn header_of(line: &[u8]) -> Header {
     Header {
         date: script::date(line, 1),
@@ -62,11 +47,10 @@ fn header_of(line: &[u8]) -> Header {
 }
 
 fn open(at: u64, line: &[u8]) -> Run {
-    let answer = Run::open(header_of(line));
-    let run = answer.run;
-    let refusal = answer.refusal;
+    let opened = Run::open(header_of(line));
+    let refusal = opened.refusal;
     answer::answered(at, refusal);
-    run
+    opened.run
 }
 
 fn contract_of(line: &[u8]) -> Contract {
@@ -79,40 +63,9 @@ fn contract_of(line: &[u8]) -> Contract {
 
 fn contract(run: Run, at: u64, line: &[u8]) -> Run {
     let answer = run.contract(contract_of(line), script::field(line, 4));
-    let after = answer.run;
     let refusal = answer.refusal;
     answer::answered(at, refusal);
-    after
-}
-
-fn once(refusal: Refusal) -> u64 {
-    if refusal.number() == 0 {
-        return 1;
-    }
-    0
-}
-
-// What the last of a number of samples answered, and how many of them were accepted.
-struct Sampled {
-    last: Answer,
-    accepted: u64,
-}
-
-fn repeated(run: Run, sample: Sample, times: u64) -> Sampled {
-    let mut last = Answer {
-        run: run,
-        refusal: Refusal::None,
-    };
-    let mut accepted: u64 = 0;
-    let mut given: u64 = 0;
-    while given < times {
-        let at_hand = last.run;
-        last = at_hand.sample(sample);
-        let refusal = last.refusal;
-        accepted = std::num::wrapping_add_u64(accepted, once(refusal));
-        given += 1;
-    }
-    Sampled { last, accepted }
+    answer.run
 }
 
 fn sample_of(line: &[u8]) -> Sample {
@@ -122,13 +75,23 @@ fn sample_of(line: &[u8]) -> Sample {
     }
 }
 
-fn samples(run: Run, at: u64, line: &[u8]) -> Run {
-    let given = repeated(run, sample_of(line), script::count(line, 1, 65_535));
-    let last = given.last;
-    let after = last.run;
+// The same sample so often: what the last answered is told, and how many were accepted.
+fn samples(run: Run, at: u64, sample: Sample, times: u64) -> Run {
+    let mut last = Answer {
+        run: run,
+        refusal: Refusal::None,
+    };
+    let mut accepted: u64 = 0;
+    let mut given: u64 = 0;
+    while given < times {
+        last = last.run.sample(sample);
+        let refusal = last.refusal;
+        accepted = std::num::wrapping_add_u64(accepted, (refusal.number() == 0) as u64);
+        given += 1;
+    }
     let refusal = last.refusal;
-    answer::counted(at, refusal, given.accepted);
-    after
+    answer::counted(at, refusal, accepted);
+    last.run
 }
 
 fn show_total(at: u64, refusal: Refusal, quarters: u8, fees: Cents, penalties: Cents) {
@@ -139,76 +102,45 @@ fn show_total(at: u64, refusal: Refusal, quarters: u8, fees: Cents, penalties: C
 }
 
 fn end(run: Run, at: u64) -> Run {
-    let answer = run.end();
-    let refusal = answer.refusal;
-    show_total(at, refusal, answer.quarters, answer.fees, answer.penalties);
-    let after = answer.run;
-    after
+    let ended = run.end();
+    let refusal = ended.refusal;
+    show_total(at, refusal, ended.quarters, ended.fees, ended.penalties);
+    ended.run
 }
 
-fn contracts_of(books: Books, direction: Direction) -> u64 {
-    books.book(direction).count() as u64
+fn contracts_in(run: Run, direction: Direction) -> u64 {
+    run.books().book(direction).count() as u64
 }
 
-fn show_counts(at: u64, books: Books) {
-    let above = contracts_of(books, Direction::Positive);
-    let below = contracts_of(books, Direction::Negative);
+fn heading(run: Run, at: u64) {
+    let above = contracts_in(run, Direction::Positive);
+    let below = contracts_in(run, Direction::Negative);
     answer::counted_both(at, above, below);
-}
-
-fn show_head(heading: Heading) {
-    let mut out = answer::dotted();
+    let heading = run.heading();
     let interval = heading.interval;
+    let mut out = answer::dotted();
     let printed = print_head(&mut out, heading.date, interval, heading.lot);
     answer::showed(printed, &out);
 }
 
-fn heading(run: Run, at: u64) -> Run {
-    show_counts(at, run.books());
-    show_head(run.heading());
-    run
-}
-
-// The run after a call that changes no more than the run.
-fn ran(run: Run, at: u64, line: &[u8]) -> Run {
-    match script::letter(line, 0) {
-        b'C' => contract(run, at, line),
-        b'S' => samples(run, at, line),
-        b'E' => end(run, at),
-        _ => heading(run, at),
-    }
-}
-
-fn show_sheets(quarter: u8, sheets: Sheets) {
+fn show_sheets(at: u64, refusal: Refusal, quarter: u8, sheets: Sheets) {
+    answer::answered(at, refusal);
     let mut out = answer::dotted();
     let printed = print_quarter(&mut out, quarter, sheets);
     answer::showed(printed, &out);
 }
 
-fn take(run: Run, at: u64) -> Held {
-    let answer = run.take();
-    let refusal = answer.refusal;
-    answer::answered(at, refusal);
-    let sheets = answer.sheets;
-    show_sheets(answer.quarter, sheets);
-    let after = answer.run;
-    Held {
-        run: after,
-        sheets: sheets,
-    }
+fn take(run: Run, at: u64) -> Taken {
+    let taken = run.take();
+    let refusal = taken.refusal;
+    show_sheets(at, refusal, taken.quarter, taken.sheets);
+    taken
 }
 
-// An opening, or else a taking.
-fn anew(run: Run, at: u64, line: &[u8]) -> Held {
-    if script::letter(line, 0) == b'O' {
-        return untaken(open(at, line));
-    }
-    take(run, at)
-}
-
-// The printing call of a line, but for that of sheets.
-fn printed_line(line: &[u8], out: &mut [u8]) -> Printed {
+// The printing call of a line.
+fn printed(sheets: Sheets, line: &[u8], out: &mut [u8]) -> Printed {
     match script::letter(line, 0) {
+        b'Q' => print_quarter(out, script::byte(line, 3), sheets),
         b'V' => print_head(
             out,
             script::date(line, 3),
@@ -229,46 +161,37 @@ fn printed_line(line: &[u8], out: &mut [u8]) -> Printed {
     }
 }
 
-fn printed(sheets: Sheets, line: &[u8], out: &mut [u8]) -> Printed {
-    if script::letter(line, 0) != b'Q' {
-        return printed_line(line, out);
-    }
-    print_quarter(out, script::byte(line, 3), sheets)
-}
-
-// The length of the text of a printing call, which is printed where it has room.
-fn text_length(sheets: Sheets, line: &[u8]) -> u64 {
-    let mut whole = answer::dotted();
-    answer::length_of(printed(sheets, line, &mut whole))
-}
-
-// A printing call, and the whole buffer that it was lent.
-fn print_into(sheets: Sheets, at: u64, line: &[u8], lent: &mut [u8]) {
-    let printed = printed(sheets, line, lent);
-    answer::showed_whole(at, printed, lent);
-}
-
-// The length of the text may decide how much is lent.
+// A printing call, and the whole buffer that it was lent. The length of the text, which is printed first where it has room, may decide how much is
+// lent.
 fn print(sheets: Sheets, at: u64, line: &[u8]) {
-    let n = script::lent(line, text_length(sheets, line));
+    let mut whole = answer::dotted();
+    let text = answer::length_of(printed(sheets, line, &mut whole));
+    let n = script::lent(line, text);
     let mut buf = answer::dotted();
-    print_into(sheets, at, line, &mut buf[..n]);
+    let lent = &mut buf[..n];
+    let told = printed(sheets, line, lent);
+    answer::showed_whole(at, told, lent);
 }
 
-// The call of a line, which is the `at`-th of the script.
-fn called(held: Held, at: u64, line: &[u8]) -> Held {
-    let run = held.run;
-    let sheets = held.sheets;
+// The call of a line, which is the `at`-th of the script. What is held from call to call is what the last taking answered, with the run at hand in it;
+// after an opening nothing was taken.
+fn called(mut held: Taken, at: u64, line: &[u8]) -> Taken {
     match script::letter(line, 0) {
-        b'O' | b'K' => return anew(run, at, line),
-        b'C' | b'S' | b'E' | b'H' => {
-            let after = ran(run, at, line);
-            return Held {
-                run: after,
-                sheets: sheets,
-            };
+        b'O' => {
+            held.run = open(at, line);
+            held.sheets = no_sheets();
         }
-        _ => print(sheets, at, line),
+        b'C' => held.run = contract(held.run, at, line),
+        b'S' => held.run = samples(
+            held.run,
+            at,
+            sample_of(line),
+            script::count(line, 1, 65_535),
+        ),
+        b'K' => return take(held.run, at),
+        b'E' => held.run = end(held.run, at),
+        b'H' => heading(held.run, at),
+        _ => print(held.sheets, at, line),
     }
     held
 }
@@ -289,11 +212,10 @@ fn line_end(script: &[u8], from: usize) -> usize
     i
 }
 
-// Before the first opening the run is what a refused one gives.
-fn at_first() -> Held {
+// Before the first opening the run is what a refused one gives, and its taking has nothing in it.
+fn at_first() -> Taken {
     let opened = Run::open(header_of(b""));
-    let run = opened.run;
-    untaken(run)
+    opened.run.take()
 }
 
 fn play(script: &[u8]) {

@@ -16,7 +16,7 @@ use Rattle.values.specs.declared.value.Quantity.{Quantity}
 use Rattle.values.specs.declared.value.Quantity.the-variants.{Setpoint, Acceptance, Floor}
 use Rattle.values.proofs.Small.{floor-under}
 use Rattle.claims.specs.Powers.{Samples, next, powerAt, powersOf}
-use Rattle.claims.specs.Sides.{partAt}
+use Rattle.claims.specs.Views.{partAt}
 use Rattle.claims.specs.Claims.{sliceEnergy, underOf, capOf}
 use Rattle.claims.proofs.PowerLaws.{power-is}
 use Rattle.series.specs.Cuts.{Cut}

@@ -19,7 +19,7 @@ use Rattle.values.specs.Part.{Within}
 use Rattle.channel.specs.Along.{ogaAfter, ugaAfter, ogasAlong, ugasAlong, trackOf}
 use Rattle.channel.proofs.AlongLaws.{track-oga, track-uga}
 use Rattle.claims.specs.Claims.{samplesAlong}
-use Rattle.claims.specs.Sides.{sampleWith, sampleAt}
+use Rattle.claims.specs.Views.{sampleWith, sampleAt}
 
 pub within : (ch : Channel) (ss : List ℤ) → length (ch .ring) ≡ 302 → (i : ℕ) → i < length ss
     → Within (getD ss i (pos 0)) (getD (ogasAlong ch ss) i (pos 0)) (getD (ugasAlong ch ss) i (pos 0))

@@ -8,9 +8,8 @@ use native.Mathlib.Nat.{mul-le-mul-left, add-zero, zero-add}
 use lib.ListN.{length, take, getD}
 use lib.Seq.{ext-getD, getD-take, length-take-le}
 use Rattle.arithmetic.specs.Whole.{leastOf}
-use Rattle.arithmetic.specs.Energy.{energyOf}
+use Rattle.arithmetic.specs.Energy.{kwh, energyOf}
 use Rattle.arithmetic.specs.declared.energy.Kwh.{Kwh}
-use Rattle.series.specs.Sums.{sumOf}
 use Rattle.series.specs.Scan.{outputs, each}
 use Rattle.series.specs.Slices.{bothOf}
 use Rattle.series.specs.Cuts.{lowAt, lastOf, aboveOf, slicedIn, piecesOf, cut, cutAt, cutsOf, highest}
@@ -19,12 +18,12 @@ use Rattle.series.proofs.Shorts.{short-parted}
 use Rattle.series.proofs.Scanned.{each-length, outputs-length}
 use Rattle.values.specs.declared.value.Quantity.{Quantity}
 use Rattle.values.specs.declared.value.Quantity.the-variants.{Setpoint, Actual, Acceptance, Inner, Floor, Covered, Kept}
-use Rattle.claims.specs.Blank.{kwh, noClaim}
+use Rattle.claims.specs.Blank.{noClaim}
 use Rattle.claims.specs.Powers.{next}
-use Rattle.claims.specs.Sides.{energyHeld, claimAt, joinedOf, powerIn, powersIn, lessAt, lessOf}
+use Rattle.claims.specs.Views.{energyHeld, claimAt, joinedOf, powerIn, powersIn, lessAt, lessOf}
 use Rattle.claims.specs.Claims.{sliceEnergy, lackEnergy, restEnergy, claimOf, poolEnergy}
 use Rattle.claims.specs.Room.{Small}
-use Rattle.claims.specs.declared.side.Side.{Side}
+use Rattle.claims.specs.declared.view.View.{View}
 use Rattle.claims.specs.declared.claim.Claim.{Claim}
 
 -- f of each, at a place
@@ -110,7 +109,7 @@ unfolding each bothOf
 both-each f g [] = refl
 both-each f g (x ∷ l) = rw (both-each f g l)
 
-pub kept-is : (x : Side) → powersIn x Kept ≡ bothOf (powersIn x Inner) (powersIn x Covered)
+pub kept-is : (x : View) → powersIn x Kept ≡ bothOf (powersIn x Inner) (powersIn x Covered)
 kept-is x = both-each (powerIn (x .direction) Inner) (powerIn (x .direction) Covered) (take (x .count) (x .samples))
 
 module _ (seconds : ℕ) (inner kept upper : List ℕ) (count : ℕ) (fits : Small seconds inner) where

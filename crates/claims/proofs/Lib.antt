@@ -9,4 +9,4 @@ pub mod Prefix
 pub mod Quarters
 pub mod Following
 pub mod History
-pub mod SideLaws
+pub mod ViewLaws

@@ -20,10 +20,10 @@ use Rattle.values.specs.Part.{amountOf}
 use Rattle.values.proofs.Written.{written}
 use Rattle.claims.specs.Powers.{Samples, powerAt}
 use Rattle.claims.proofs.Blanks.{powers-900}
-use Rattle.claims.specs.Sides.{partAt, powerIn, powersIn}
+use Rattle.claims.specs.Views.{partAt, powerIn, powersIn}
 use Rattle.claims.specs.Blank.{noPowers}
 use Rattle.claims.specs.Room.{Timely, Filled, Small}
-use Rattle.claims.specs.declared.side.Side.{Side}
+use Rattle.claims.specs.declared.view.View.{View}
 
 pub power-is : (d : Direction) (x : Samples) (q : Quantity) (i : ℕ) (s : ℤ) → powerAt d x q i s ≡ amountOf q (partAt d x i s)
 unfolding powerAt
@@ -54,8 +54,8 @@ module _ (powers r : List ℕ) (n : ℕ) (count : length powers ≡ n) where
         plain = omega arith;
       }
 
--- those of a side are as many as its samples
-module _ (x : Side) (t : Timely x) where
+-- those of a view are as many as its samples
+module _ (x : View) (t : Timely x) where
   pub samples-count : length (take (x .count) (x .samples)) ≡ x .count
   samples-count = length-take-le (x .count) (x .samples) (omega (arith, t))
 

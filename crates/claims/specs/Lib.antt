@@ -2,4 +2,4 @@ pub mod Powers
 pub mod Claims
 pub mod Blank
 pub mod Room
-pub mod Sides
+pub mod Views

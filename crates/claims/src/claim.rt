@@ -4,10 +4,11 @@ ghost use mathlib.Core.Path.{_≡_};
 ghost use mathlib.Core.List.{_++_};
 ghost use Prim.Native.Nat.{_-_, _≤_};
 ghost use lib.ListN.{take, drop};
+ghost use Rattle.arithmetic.specs.Energy.{kwh};
 ghost use Rattle.arithmetic.specs.Whole.{leastOf};
 ghost use Rattle.claims.specs.Claims.{claimFrom};
-ghost use Rattle.claims.specs.Blank.{kwh, noClaims};
-ghost use Rattle.claims.specs.Sides.{joinedOf};
+ghost use Rattle.claims.specs.Blank.{noClaims};
+ghost use Rattle.claims.specs.Views.{joinedOf};
 
 // A contract's energies before the surplus is handed out.
 pub struct Claim {

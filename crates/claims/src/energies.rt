@@ -2,7 +2,7 @@
 use crate::claim::Claim;
 use crate::claim::Rest;
 use crate::claim::joined;
-use crate::side::Side;
+use crate::view::View;
 use arithmetic::energy::Kwh;
 use arithmetic::energy::energy;
 use arithmetic::whole::excess;
@@ -12,15 +12,15 @@ use series::cutting::Pieces;
 use series::cutting::cut;
 use values::value::Quantity;
 ghost use mathlib.Core.Path.{_≡_};
-ghost use mathlib.Core.List.{_++_};
 ghost use Prim.Native.Nat.{ℕ, _*_, _≤_, _<_, _^_};
-ghost use lib.ListN.{take, drop, getD};
+ghost use lib.ListN.{take, getD};
+ghost use Rattle.arithmetic.specs.Energy.{kwh};
 ghost use Rattle.series.specs.Scan.{each};
 ghost use Rattle.series.specs.Cuts.{cutAt, piecesOf};
 ghost use Rattle.values.specs.declared.value.Quantity.the-variants.{Inner, Covered};
-ghost use Rattle.claims.specs.Claims.{sliceEnergy, lackEnergy, poolEnergy, claimedOf};
-ghost use Rattle.claims.specs.Sides.{powersIn, energyHeld, lessOf};
-ghost use Rattle.claims.specs.Blank.{kwh, noEnergies};
+ghost use Rattle.claims.specs.Claims.{lackEnergy, poolEnergy, claimedOf};
+ghost use Rattle.claims.specs.Views.{powersIn, energyHeld, lessOf};
+ghost use Rattle.claims.specs.Blank.{noEnergies};
 ghost use Rattle.claims.specs.Room.{Timely, Small, Sliced};
 
 // The energy of a quantity: each contract's, and that above the last limit.
@@ -81,7 +81,7 @@ fn rest(setpoint: Slices, actual: Slices, acceptance: Slices) -> Rest
     }
 }
 
-impl Side {
+impl View {
     // The sums of a quantity's slices, and of the rest above the last limit.
     fn pieces(self, quantity: Quantity, upper: [u64; 32], count: usize) -> Pieces
         requires { ⌜ Timely self ⌝ }

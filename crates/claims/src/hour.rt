@@ -1,10 +1,10 @@
 // The energies of a quarter hour in both directions, and the channel after it.
 use crate::claim::Claim;
 use crate::claim::Rest;
-use crate::side::Followed;
-use crate::side::Sample;
-use crate::side::Side;
-use crate::side::follow;
+use crate::view::BoundedSample;
+use crate::view::Followed;
+use crate::view::View;
+use crate::view::follow;
 use arithmetic::energy::Kwh;
 use channel::Channel;
 use contracts::book::Book;
@@ -18,9 +18,9 @@ ghost use lib.ListN.{take};
 ghost use Rattle.vocabulary.specs.declared.direction.Direction.the-variants.{Positive, Negative};
 ghost use Rattle.contracts.specs.Terms.{termsIn};
 ghost use Rattle.claims.specs.Claims.{measuredHeld};
-ghost use Rattle.claims.specs.Sides.{sideOf, energiesIn, measuredIn};
+ghost use Rattle.claims.specs.Views.{viewOf, energiesIn, measuredIn};
 ghost use Rattle.claims.specs.Room.{Timely};
-ghost use Rattle.claims.specs.declared.side.Followed.{Followed};
+ghost use Rattle.claims.specs.declared.view.Followed.{Followed};
 ghost use Rattle.claims.specs.declared.hour.Energies.{Energies};
 ghost use Rattle.claims.specs.declared.hour.Measured.{Measured};
 
@@ -43,7 +43,7 @@ pub struct Measured {
     pub negative: Energies,
 }
 
-impl Side {
+impl View {
     // The energies of a direction.
     fn energies(self, terms: [Terms; 32], count: usize) -> Energies
         requires { ⌜ (count ≤ 32) × Timely self ⌝ }
@@ -72,23 +72,28 @@ impl Side {
 }
 
 // The same, for the contracts of a list.
-fn listed(direction: Direction, samples: [Sample; 900], windows: Windows, book: Book) -> Energies
-    requires { ⌜ Timely (sideOf direction samples windows) ⌝ }
-    ensures { λ r. ⌜ r ≡ energiesIn (sideOf direction samples windows) (termsIn book) ⌝ }
+fn listed(
+    direction: Direction,
+    samples: [BoundedSample; 900],
+    windows: Windows,
+    book: Book,
+) -> Energies
+    requires { ⌜ Timely (viewOf direction samples windows) ⌝ }
+    ensures { λ r. ⌜ r ≡ energiesIn (viewOf direction samples windows) (termsIn book) ⌝ }
 {
     let seconds = windows.seconds as u64;
-    let side = Side {
+    let view = View {
         direction: direction,
         samples: samples,
         count: windows.samples,
         seconds: seconds,
     };
-    side.energies(book.terms(), book.held())
+    view.energies(book.terms(), book.held())
 }
 
 // The energies of the samples that a channel has followed.
 fn both(followed: Followed, windows: Windows, positive: Book, negative: Book) -> Measured
-    requires { ⌜ Timely (sideOf Positive (followed .samples) windows) × Timely (sideOf Negative (followed .samples) windows) ⌝ }
+    requires { ⌜ Timely (viewOf Positive (followed .samples) windows) × Timely (viewOf Negative (followed .samples) windows) ⌝ }
     ensures { λ r. ⌜ r ≡ measuredIn followed windows (termsIn positive) (termsIn negative) ⌝ }
 {
     let after = followed.channel;

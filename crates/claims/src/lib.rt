@@ -2,5 +2,5 @@
 // may claim of it. No surplus is handed out here, and nothing is billed.
 pub mod hour; // both directions of a quarter hour
 pub mod claim; // Claim: a contract's energies, cap and gap
-mod side; // what a direction sees of each sample, and its quantities
+mod view; // what a direction sees of each sample, and its quantities
 mod energies; // each quantity cut at the contracts' limits, in kWh

@@ -5,7 +5,7 @@ use mathlib.Core.Path.{_≡_, refl, sym, ap, _∙_}
 use mathlib.Core.List.{List, [], _∷_}
 use native.Mathlib.Nat.{mul-add}
 use lib.ListN.{length}
-use Rattle.arithmetic.specs.Energy.{kwhOf}
+use Rattle.arithmetic.specs.Energy.{kwh, kwhOf}
 use Rattle.arithmetic.specs.declared.energy.Kwh.{Kwh}
 use Rattle.series.specs.Scan.{each, outputs}
 use Rattle.series.specs.Sums.{sumOf}
@@ -22,7 +22,7 @@ use Rattle.claims.specs.Claims.{claimFrom}
 use Rattle.claims.specs.Powers.{next}
 use Rattle.claims.proofs.Rests.{awarded, series-parted}
 use Rattle.quarter.specs.Quarter.{figuresOf, figuresAt}
-use Rattle.meaning.specs.Figures.{claimBy, claimsBy, asKwh, sharesBy, linesBy, restBy, poolBy}
+use Rattle.meaning.specs.Figures.{claimBy, claimsBy, sharesBy, linesBy, restBy, poolBy}
 use Rattle.meaning.specs.Given.{Given, secondsIn, termsIn, powersIn, linesIn, poolIn}
 use Rattle.explain.specs.Explained.{Column, SO, IS, AK, onLine, onPool, restOn, difference}
 use Rattle.explain.proofs.Rounded.{roundings-apart, sum-times}
@@ -69,7 +69,7 @@ module _ (seconds : ℕ) (powers : Quantity → List ℕ) where
     pub lines-exact : each (onLine c) (linesBy seconds powers ts) ≡ each kwhOf slices
     unfolding linesBy
     lines-exact =
-        lines-claims c (each asKwh (sharesBy seconds powers ts)) ts 0 (claimsBy seconds powers ts)
+        lines-claims c (each kwh (sharesBy seconds powers ts)) ts 0 (claimsBy seconds powers ts)
         ∙ each-each (onClaim c) (claimBy seconds powers) (cutsOf (limitsOf ts))
         ∙ each-same (λ x. onClaim c (claimBy seconds powers x)) (λ x. kwhOf (exact c x)) (claim-exact c) (cutsOf (limitsOf ts))
         ∙ sym (each-each kwhOf (exact c) (cutsOf (limitsOf ts)))

@@ -1,7 +1,7 @@
 -- What the slices of one series lack of those of another is the difference of two cuts: of the one, and of the smaller of both, sample by sample.
 -- So a shortfall needs no loop of its own.
 -- Assumes nothing.
-use mathlib.Core.Path.{_≡_, refl, ap, _∙_}
+use mathlib.Core.Path.{_≡_, refl}
 use mathlib.Core.List.{List, [], _∷_}
 use mathlib.Core.Logic.{⊎-elim}
 use Prim.Native.Nat.{ℕ, _+_, _-_, _≤_}
@@ -46,7 +46,3 @@ both-below : {got want : List ℕ} → Below got want → bothOf want got ≡ go
 unfolding bothOf leastOf
 both-below none = refl
 both-below (more {v} {w} h b) = let e : w - (w - v) ≡ v = omega arith in rw (e, both-below b)
-
-pub short-below : (low high : ℕ) {got want : List ℕ} → Below got want → shortOf low high want got ≡ slicedOf low high want - slicedOf low high got
-short-below low high {got} {want} b =
-    short-parted low high want got ∙ ap (λ (l : List ℕ). slicedOf low high want - slicedOf low high l) (both-below b)

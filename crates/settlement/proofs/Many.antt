@@ -1,7 +1,7 @@
 -- Several samples, one after the other; what the room in the quarter hour at hand says of them.
 use Prim.Native.Nat.{ℕ, suc, _+_, _-_, _≤_, _<_}
-use borrow.Author.Tests.{lt-leb, lt-ltb, le-ltb}
-use lib.Dec.{leb, lit<}
+use borrow.Author.Tests.{lt-leb, lt-ltb}
+use lib.Dec.{leb}
 use mathlib.Core.Path.{_≡_, refl, sym, ap, subst, _∙_}
 use mathlib.Core.Bool.{Bool, true, false, cond}
 use mathlib.Core.List.{List, [], _∷_}
@@ -14,7 +14,6 @@ use Rattle.vocabulary.specs.declared.refusal.Refusal.the-variants.{None, WrongM
 use Rattle.vocabulary.specs.Refusals.{accepted}
 use Rattle.vocabulary.specs.Sample.{powerInRange}
 use Rattle.claims.specs.Claims.{samplesOf}
-use Rattle.contracts.proofs.Accepted.{passed}
 use Rattle.settlement.specs.Calls.{takeRefusal}
 use Rattle.settlement.specs.declared.run.Run.{Run}
 use Rattle.settlement.specs.Run.{sampled, sampleGround, answerOf, sampledOf, takeGround}
@@ -97,17 +96,6 @@ not-full run h =
     let r = room-open (leb (run .plan .quarters) (run .account .taken)) (samplesOf (run .past) - run .tape .filled) 0 h in
     let f : run .tape .filled < samplesOf (run .past) = omega (arith, r .1) in
     rw (lt-ltb _ _ f)
-
--- where a sample was stored and leaves no room, one does
-pub full : (run : Run) (x y : ℤ) → sampleGround run x y ≡ None → roomOf (sampled run x y) ≡ 0 → takeGround (sampled run x y) ≡ None
-unfolding roomOf sampleGround sampleRefusal takeGround takeRefusal sampled longer
-full run x y e z =
-    let p = passed (leb (samplesOf (run .past)) (run .tape .filled)) WrongMoment _ (lit< tt) e in
-    let q = passed (leb (run .plan .quarters) (run .account .taken)) WrongMoment _ (lit< tt) (p .1) in
-    let w : samplesOf (run .past) - (run .tape .filled + 1) ≡ 0 =
-    sym (ap (λ (b : Bool). cond b 0 (samplesOf (run .past) - (run .tape .filled + 1))) (q .0)) ∙ z in
-    let f : samplesOf (run .past) ≤ run .tape .filled + 1 = omega arith in
-    rw (le-ltb _ _ f, q .0)
 
 -- IN RANGE, AND NO MORE THAN THERE IS ROOM FOR: ALL ARE TAKEN
 pub data Ranged : List Sample → Type 0 where

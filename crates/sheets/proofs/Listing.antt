@@ -3,10 +3,10 @@ use Prim.Native.Nat.{ℕ}
 use mathlib.Core.Path.{_≡_, refl}
 use mathlib.Core.List.{[], _∷_}
 use lib.IntN.{pos}
+use Rattle.arithmetic.specs.Energy.{kwh}
 use Rattle.print.specs.Decimal.{digitsIn, digits, numberText, twoDigits, fourDigits, dateText}
 use Rattle.print.specs.Fields.{tabbed}
 use Rattle.sheets.specs.Sheet.{lineText, headText, poolText, energiesOf, restOf, contractText, contractsText, sideText, quarterText, totalText, refusalText}
-use Rattle.arithmetic.specs.declared.energy.Kwh.{Kwh}
 use Rattle.arithmetic.specs.declared.money.Cents.{Cents}
 use Rattle.vocabulary.specs.declared.interval.Interval.the-variants.{Four}
 use Rattle.contracts.specs.declared.book.Awarded.{Awarded}
@@ -14,9 +14,6 @@ use Rattle.quarter.specs.declared.sheet.Pool.{Pool}
 use Rattle.quarter.specs.declared.sheet.Figures.{Figures}
 use Rattle.quarter.specs.declared.sheet.Sheet.{Sheet}
 use Rattle.vocabulary.specs.declared.refusal.Refusal.the-variants.{NoEnd}
-
-abbrev kwh : ℕ → Kwh
-kwh n = record { 0 = n }
 
 abbrev cents : ℕ → Cents
 cents n = record { 0 = pos n }
@@ -33,7 +30,17 @@ figuresOf so is ak mi zu un ab fee penalty =
 
 abbrev poolOf : ℕ → ℕ → ℕ → ℕ → ℕ → ℕ → ℕ → ℕ → Pool
 poolOf so is ak me mi zu un ab =
-    record { setpoint = kwh so; actual = kwh is; acceptance = kwh ak; surplus = kwh me; shortfall = kwh mi; share = kwh zu; «under_delivery» = kwh un; billed = kwh ab; rest = record { setpoint = kwh 0; actual = kwh 0; acceptance = kwh 0 } }
+    record {
+      setpoint = kwh so;
+      actual = kwh is;
+      acceptance = kwh ak;
+      surplus = kwh me;
+      shortfall = kwh mi;
+      share = kwh zu;
+      «under_delivery» = kwh un;
+      billed = kwh ab;
+      rest = record { setpoint = kwh 0; actual = kwh 0; acceptance = kwh 0 };
+    }
 
 abbrev positive : Sheet
 positive =

@@ -1,6 +1,6 @@
 -- How a call's answer and bytes tell a turn.
 use Prim.Native.Nat.{ℕ, _+_, _%_, _^_, _≤_, _<_}
-use mathlib.Core.Path.{_≡_, sym, ap, subst, _∙_}
+use mathlib.Core.Path.{_≡_, refl, ap, subst, _∙_}
 use mathlib.Core.Bool.{true, false, cond}
 use mathlib.Core.List.{List}
 use native.Mathlib.Omega.{arith}
@@ -8,31 +8,44 @@ use borrow.Author.Tests.{eq-eqb, ne-eqb}
 use lib.ListN.{length}
 use lib.Dec.{leb·zero}
 use Rattle.vocabulary.specs.declared.refusal.Refusal.{Refusal}
+use Rattle.vocabulary.specs.declared.refusal.Refusal.the-variants.{NoEnd}
 use Rattle.vocabulary.specs.Refusals.{numberOf, accepted}
 use Rattle.sheets.specs.Buffer.{bufferLength, printAnswer, printInto}
 use Rattle.sheets.specs.declared.Printed.{Printed}
 use Rattle.sheets.specs.declared.Printed.the-variants.{Length}
 use Rattle.lines.specs.Turns.{quiet}
-use Rattle.text.specs.Desk.{Turn, Tells, deskAt, refusedTurn, unless, takenText, quarterTurn, turnAt, lineTurn, finishAt, finishTurn, answerOf}
+use Rattle.reading.specs.Line.{lineOf}
+use Rattle.reading.specs.declared.Line.{Line}
+use Rattle.reading.specs.declared.Line.the-variants as L
+use Rattle.text.specs.Desk.{Turn, Tells, deskAt, refusedTurn, unless, takenText, quarterTurn, firstTurn, nextTurn, turnAt, lineTurn, closedAt, finishAt, finishTurn, answerOf}
+use Rattle.text.specs.Serving.{Turned, toldBy, early, late, misplacedAt, servedTurn, placedTurn}
 use Rattle.settlement.specs.declared.run.Run.{Run}
 use Rattle.settlement.specs.Run.{takenOf}
 use Rattle.settlement.specs.Many.{roomOf}
 use Rattle.settlement.proofs.Many.{not-full}
 use Rattle.text.specs.declared.desk.Stage.{Stage}
-use Rattle.text.specs.declared.desk.Stage.the-variants.{Open}
+use Rattle.text.specs.declared.desk.Stage.the-variants.{Empty, Open, Closed}
 use Rattle.text.specs.declared.desk.Desk.{Desk}
 use Rattle.text.specs.declared.desk.Told.{Told}
 
 -- the text was printed, if there was room for it
-pub told : {out out′ : List ℕ} {before : Desk} {turn : Turn} {p : Printed} {r : Told} → r ≡ answerOf before (turn .desk) p → p ≡ printAnswer out (turn .text)
-    → out′ ≡ printInto out (turn .text) → length (turn .text) ≤ bufferLength → Tells out before turn r out′
-told {before = before} {turn = turn} a e b h = record { prints = record { answer = a ∙ ap (answerOf before (turn .desk)) e; bytes = b }; room = h }
+pub turned : {out out′ : List ℕ} {turn : Turn} {p : Printed} {r : Told} → r ≡ toldBy (turn .desk) p → p ≡ printAnswer out (turn .text)
+    → out′ ≡ printInto out (turn .text) → length (turn .text) ≤ bufferLength → Turned out turn r out′
+turned {turn = turn} a e b h = record { told = a ∙ ap (toldBy (turn .desk)) e; bytes = b; room = h }
 
 -- nothing was printed
-pub silent : (out : List ℕ) (before after : Desk) → Tells out before (quiet after) (record { desk = after; printed = Length 0 }) out
-silent out before after = record { prints = record { answer = rw (leb·zero (length out)); bytes = rw (leb·zero (length out)) }; room = omega arith }
+pub silent : (out : List ℕ) (after : Desk) → Turned out (quiet after) (toldBy after (Length 0)) out
+silent out after = record { told = rw (leb·zero (length out)); bytes = rw (leb·zero (length out)); room = omega arith }
+
+-- the desk that came in was put back where there was no room
+pub tells : {out out′ : List ℕ} {before : Desk} {turn : Turn} {t r : Told} → Turned out turn t out′ → r ≡ answerOf before (t .desk) (t .printed) → Tells out before turn r out′
+tells {before = before} u a =
+    record { prints = record { answer = a ∙ ap (λ (t : Told). answerOf before (t .desk) (t .printed)) (u .told); bytes = u .bytes }; room = u .room }
 
 -- another name of the turn
+pub as-turned : {out out′ : List ℕ} {turn turn′ : Turn} {r : Told} → turn ≡ turn′ → Turned out turn r out′ → Turned out turn′ r out′
+as-turned {out} {out′} {r = r} e t = subst (λ (x : Turn). Turned out x r out′) e t
+
 pub as-turn : {out out′ : List ℕ} {before : Desk} {turn turn′ : Turn} {r : Told} → turn ≡ turn′ → Tells out before turn r out′ → Tells out before turn′ r out′
 as-turn {out} {out′} {before} {r = r} e t = subst (λ (x : Turn). Tells out before x r out′) e t
 
@@ -52,15 +65,66 @@ module _ (desk : Desk) (number : ℕ) (turn : Turn) {n : ℕ} {refusal refusal�
   pub goes-on : n ≡ 0 → turn ≡ unless desk number refusal′ turn
   goes-on z = rw (← same, none-refused n refusal e z)
 
--- the turn at the desk's stage
-module _ (desk : Desk) {stage : Stage} (at : desk .stage ≡ stage) where
-  pub line-at : (number : ℕ) (line : List ℕ) → turnAt stage desk number line ≡ lineTurn desk number line
-  unfolding lineTurn
-  line-at number line = ap (λ (s : Stage). turnAt s desk number line) (sym at)
+-- ---- the turn at the desk's stage
 
-  pub finish-at : (count : ℕ) → finishAt stage desk ((count + 1) % 2 ^ 64) ≡ finishTurn desk count
+module _ (desk : Desk) (number : ℕ) (line : List ℕ) where
+  first-placed : (said : Line) → unless desk number (early said) (servedTurn desk number line said) ≡ firstTurn desk number said
+  unfolding firstTurn servedTurn
+  first-placed (L.Header header) = refl
+  first-placed (L.Contract contract) = refl
+  first-placed (L.Sample sample) = refl
+  first-placed L.End = refl
+  first-placed L.Malformed = refl
+
+  next-placed : (said : Line) → unless desk number (late said) (servedTurn desk number line said) ≡ nextTurn desk number line said
+  unfolding nextTurn servedTurn
+  next-placed (L.Header header) = refl
+  next-placed (L.Contract contract) = refl
+  next-placed (L.Sample sample) = refl
+  next-placed L.End = refl
+  next-placed L.Malformed = refl
+
+  at-stage : (stage : Stage) → closedAt stage ≡ false
+      → unless desk number (misplacedAt stage (lineOf line)) (servedTurn desk number line (lineOf line)) ≡ turnAt stage desk number line
+  at-stage Empty e = first-placed (lineOf line)
+  at-stage Open e = next-placed (lineOf line)
+  at-stage Closed e = absurd (let z : _≡_ {A = ℕ} 0 1 = cc in (omega arith))
+
+  -- while the desk reads, a line is served if it comes in its place
+  pub line-placed : closedAt (desk .stage) ≡ false → placedTurn desk number line (lineOf line) ≡ lineTurn desk number line
+  unfolding placedTurn lineTurn
+  line-placed reads = at-stage (desk .stage) reads
+
+-- and the input's end comes too early
+module _ (desk : Desk) (count : ℕ) where
+  no-end : (stage : Stage) → closedAt stage ≡ false → refusedTurn desk ((count + 1) % 2 ^ 64) NoEnd ≡ finishAt stage desk ((count + 1) % 2 ^ 64)
+  no-end Empty e = refl
+  no-end Open e = refl
+  no-end Closed e = absurd (let z : _≡_ {A = ℕ} 0 1 = cc in (omega arith))
+
+  pub finish-open : closedAt (desk .stage) ≡ false → refusedTurn desk ((count + 1) % 2 ^ 64) NoEnd ≡ finishTurn desk count
   unfolding finishTurn
-  finish-at count = ap (λ (s : Stage). finishAt s desk ((count + 1) % 2 ^ 64)) (sym at)
+  finish-open reads = no-end (desk .stage) reads
+
+-- a closed desk prints nothing
+module _ (desk : Desk) (shut : closedAt (desk .stage) ≡ true) where
+  pub line-closed : (number : ℕ) (line : List ℕ) → lineTurn desk number line ≡ quiet desk
+  unfolding lineTurn
+  line-closed number line = by-stage (desk .stage) shut
+    where
+      by-stage : (stage : Stage) → closedAt stage ≡ true → turnAt stage desk number line ≡ quiet desk
+      by-stage Empty e = absurd (let z : _≡_ {A = ℕ} 0 1 = cc in (omega arith))
+      by-stage Open e = absurd (let z : _≡_ {A = ℕ} 0 1 = cc in (omega arith))
+      by-stage Closed e = refl
+
+  pub finish-closed : (count : ℕ) → finishTurn desk count ≡ quiet desk
+  unfolding finishTurn
+  finish-closed count = by-stage (desk .stage) shut
+    where
+      by-stage : (stage : Stage) → closedAt stage ≡ true → finishAt stage desk ((count + 1) % 2 ^ 64) ≡ quiet desk
+      by-stage Empty e = absurd (let z : _≡_ {A = ℕ} 0 1 = cc in (omega arith))
+      by-stage Open e = absurd (let z : _≡_ {A = ℕ} 0 1 = cc in (omega arith))
+      by-stage Closed e = refl
 
 -- while there is room in the quarter hour, nothing is taken and nothing printed
 pub waits : (run : Run) → 0 < roomOf run → quarterTurn run ≡ quiet (deskAt Open run)

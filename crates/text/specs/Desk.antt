@@ -148,10 +148,6 @@ abbrev pub answerOf : Desk → Desk → Printed → Told
 answerOf before after (Length n) = record { desk = after; printed = Length n }
 answerOf before after TooShort = record { desk = before; printed = TooShort }
 
--- nothing to print yet: the run goes on
-abbrev pub goesOn : Run → Told
-goesOn run = record { desk = deskAt Open run; printed = Length 0 }
-
 -- a call prints a turn: its answer, and the bytes of the buffer
 pub record Prints (out : List ℕ) (before : Desk) (turn : Turn) (r : Told) (out′ : List ℕ) : Type 0 where
   pub answer : r ≡ answerOf before (turn .desk) (printAnswer out (turn .text))

@@ -1,2 +1,3 @@
 pub mod Desk
 pub mod Settle
+pub mod Serving

@@ -21,8 +21,9 @@ ghost use lib.ListN.{length};
 ghost use Rattle.sheets.specs.Buffer.{bufferLength, printAnswer, printInto};
 ghost use Rattle.records.specs.Tape.{samplesIn};
 ghost use Rattle.reading.specs.Line.{lineOf};
-ghost use Rattle.text.specs.Desk.{Tells, emptyDesk, goesOn, answerOf, refusedTurn, openTurn, contractTurn, takenText, quarterTurn, sampleTurn};
-ghost use Rattle.text.specs.Desk.{samplesTurn, roomAt, endTurn, firstTurn, nextTurn, lineTurn, finishTurn, closedAt};
+ghost use Rattle.text.specs.Desk.{Tells, deskAt, emptyDesk, answerOf, refusedTurn, openTurn, contractTurn, takenText, quarterTurn, sampleTurn};
+ghost use Rattle.text.specs.Desk.{samplesTurn, roomAt, endTurn, lineTurn, finishTurn, closedAt};
+ghost use Rattle.text.specs.Serving.{Turned, toldBy, early, late, misplacedAt, begunTurn, servedTurn, placedTurn};
 
 // Before the header; while the run is open; after the end or a refusal, when nothing is read any more.
 pub enum Stage {
@@ -42,15 +43,13 @@ pub struct Told {
     pub printed: Printed,
 }
 
-// The desk after printing, or before it where the buffer was too short.
-fn answer(before: Desk, after: Desk, printed: Printed) -> Told
-    ensures { λ r. ⌜ r ≡ answerOf before after printed ⌝ }
+// The turns below answer the desk after printing; where the buffer was too short, the one that came in is put back here.
+fn kept(before: Desk, told: Told) -> Told
+    ensures { λ r. ⌜ r ≡ answerOf before (told .desk) (told .printed) ⌝ }
 {
+    let printed = told.printed;
     match printed {
-        Printed::Length(_) => Told {
-            desk: after,
-            printed: printed,
-        },
+        Printed::Length(_) => told,
         Printed::TooShort => Told {
             desk: before,
             printed: printed,
@@ -64,8 +63,44 @@ fn print_taken(taken: Taken, out: &mut [u8]) -> Printed
     ensures bytes { λ _. ⌜ now (out .exit) ≡ printInto (now (out .entry)) (takenText taken) ⌝ }
     ensures room { λ _. ⌜ length (takenText taken) ≤ bufferLength ⌝ }
 {
-    let sheets = taken.sheets;
-    print_quarter(out, taken.quarter, sheets)
+    print_quarter(out, taken.quarter, taken.sheets)
+}
+
+// Before the header any other line comes too early.
+fn too_early(said: Line) -> Refusal
+    ensures { λ r. ⌜ r ≡ early said ⌝ }
+{
+    match said {
+        Line::Header(_) => Refusal::None,
+        Line::Contract(_) => Refusal::WrongMoment,
+        Line::Sample(_) => Refusal::WrongMoment,
+        Line::End => Refusal::WrongMoment,
+        Line::Malformed => Refusal::BadLine,
+    }
+}
+
+// After it a second one comes too late.
+fn too_late(said: Line) -> Refusal
+    ensures { λ r. ⌜ r ≡ late said ⌝ }
+{
+    match said {
+        Line::Header(_) => Refusal::WrongMoment,
+        Line::Contract(_) => Refusal::None,
+        Line::Sample(_) => Refusal::None,
+        Line::End => Refusal::None,
+        Line::Malformed => Refusal::BadLine,
+    }
+}
+
+// What is wrong with a line before the run is asked.
+fn misplaced(stage: Stage, said: Line) -> Refusal
+    ensures { λ r. ⌜ r ≡ misplacedAt stage said ⌝ }
+{
+    match stage {
+        Stage::Empty => too_early(said),
+        Stage::Open => too_late(said),
+        Stage::Closed => Refusal::None,
+    }
 }
 
 impl Desk {
@@ -91,107 +126,91 @@ impl Desk {
         }
     }
 
-    // A refusal: its line is printed, and the desk is closed.
-    fn refused(self, number: u64, refusal: Refusal, out: &mut [u8]) -> Told
-        ensures { λ r. ⌜ Tells (now (out .entry)) self (refusedTurn self number refusal) r (now (out .exit)) ⌝ }
-    {
-        let run = self.run;
-        let after = Desk {
-            run: run,
-            stage: Stage::Closed,
-        };
-        let printed = print_refusal(out, number, refusal);
-        answer(self, after, printed)
-    }
-
-    fn open(self, number: u64, header: Header, out: &mut [u8]) -> Told
-        ensures { λ r. ⌜ Tells (now (out .entry)) self (openTurn self number header) r (now (out .exit)) ⌝ }
-    {
-        let opened = Run::open(header);
-        let run = opened.run;
-        let refusal = opened.refusal;
-        if refusal.number() != 0 {
-            return self.refused(number, refusal, out);
-        }
-        let after = Desk {
-            run: run,
-            stage: Stage::Open,
-        };
-        let heading = run.heading();
-        let date = heading.date;
-        let interval = heading.interval;
-        let printed = print_head(out, date, interval, heading.lot);
-        answer(self, after, printed)
-    }
-
-    fn contract(self, number: u64, contract: Contract, identifier: &[u8], out: &mut [u8]) -> Told
-        ensures { λ r. ⌜ Tells (now (out .entry)) self (contractTurn self number contract (now (identifier .entry))) r (now (out .exit)) ⌝ }
-    {
-        let run = self.run;
-        let answer = run.contract(contract, identifier);
-        let next = answer.run;
-        let refusal = answer.refusal;
-        if refusal.number() != 0 {
-            return self.refused(number, refusal, out);
-        }
-        Desk::goes_on(next)
-    }
-
-    // Nothing to print yet: the run goes on.
-    fn goes_on(run: Run) -> Told
-        ensures { λ r. ⌜ r ≡ goesOn run ⌝ }
+    fn told(run: Run, stage: Stage, printed: Printed) -> Told
+        ensures { λ r. ⌜ r ≡ toldBy (deskAt stage run) printed ⌝ }
     {
         Told {
             desk: Desk {
                 run: run,
-                stage: Stage::Open,
+                stage: stage,
             },
-            printed: Printed::Length(0),
+            printed: printed,
         }
     }
 
-    // After samples: the quarter hour is taken once no room is left in it. A run that waits for none is left as it is.
-    fn quarter(self, run: Run, out: &mut [u8]) -> Told
-        ensures { λ r. ⌜ Tells (now (out .entry)) self (quarterTurn run) r (now (out .exit)) ⌝ }
+    // A refusal: its line is printed, and the desk is closed.
+    fn refused(self, number: u64, refusal: Refusal, out: &mut [u8]) -> Told
+        ensures { λ r. ⌜ Turned (now (out .entry)) (refusedTurn self number refusal) r (now (out .exit)) ⌝ }
     {
-        if run.room() != 0 {
-            return Desk::goes_on(run);
-        }
-        let taken = run.take();
-        let refusal = taken.refusal;
+        let printed = print_refusal(out, number, refusal);
+        Desk::told(self.run, Stage::Closed, printed)
+    }
+
+    // The run is open, and the sheet's head is printed.
+    fn begun(run: Run, out: &mut [u8]) -> Told
+        ensures { λ r. ⌜ Turned (now (out .entry)) (begunTurn run) r (now (out .exit)) ⌝ }
+    {
+        let heading = run.heading();
+        let interval = heading.interval;
+        let printed = print_head(out, heading.date, interval, heading.lot);
+        Desk::told(run, Stage::Open, printed)
+    }
+
+    fn open(self, number: u64, header: Header, out: &mut [u8]) -> Told
+        ensures { λ r. ⌜ Turned (now (out .entry)) (openTurn self number header) r (now (out .exit)) ⌝ }
+    {
+        let opened = Run::open(header);
+        let refusal = opened.refusal;
         if refusal.number() != 0 {
-            return Desk::goes_on(run);
+            return self.refused(number, refusal, out);
         }
-        let next = taken.run;
-        let after = Desk {
-            run: next,
-            stage: Stage::Open,
-        };
-        let printed = print_taken(taken, out);
-        answer(self, after, printed)
+        Desk::begun(opened.run, out)
     }
 
-    fn sample(self, number: u64, sample: Sample, out: &mut [u8]) -> Told
-        ensures { λ r. ⌜ Tells (now (out .entry)) self (sampleTurn self number sample) r (now (out .exit)) ⌝ }
+    fn contract(self, number: u64, contract: Contract, identifier: &[u8], out: &mut [u8]) -> Told
+        ensures { λ r. ⌜ Turned (now (out .entry)) (contractTurn self number contract (now (identifier .entry))) r (now (out .exit)) ⌝ }
     {
-        let run = self.run;
-        let answer = run.sample(sample);
-        let next = answer.run;
+        let answer = self.run.contract(contract, identifier);
         let refusal = answer.refusal;
         if refusal.number() != 0 {
             return self.refused(number, refusal, out);
         }
-        self.quarter(next, out)
+        Desk::told(answer.run, Stage::Open, Printed::Length(0))
+    }
+
+    // After samples: the quarter hour is taken once no room is left in it. A run that waits for none is left as it is.
+    fn quarter(run: Run, out: &mut [u8]) -> Told
+        ensures { λ r. ⌜ Turned (now (out .entry)) (quarterTurn run) r (now (out .exit)) ⌝ }
+    {
+        if run.room() != 0 {
+            return Desk::told(run, Stage::Open, Printed::Length(0));
+        }
+        let taken = run.take();
+        let refusal = taken.refusal;
+        if refusal.number() != 0 {
+            return Desk::told(run, Stage::Open, Printed::Length(0));
+        }
+        let printed = print_taken(taken, out);
+        Desk::told(taken.run, Stage::Open, printed)
+    }
+
+    fn sample(self, number: u64, sample: Sample, out: &mut [u8]) -> Told
+        ensures { λ r. ⌜ Turned (now (out .entry)) (sampleTurn self number sample) r (now (out .exit)) ⌝ }
+    {
+        let answer = self.run.sample(sample);
+        let refusal = answer.refusal;
+        if refusal.number() != 0 {
+            return self.refused(number, refusal, out);
+        }
+        Desk::quarter(answer.run, out)
     }
 
     // Several samples, for a reader that has them: in range, and no more than there is room for.
     pub fn samples(self, setpoints: &[i32], actuals: &[i32], out: &mut [u8]) -> Told
         ensures { λ r. ⌜ Tells (now (out .entry)) self (samplesTurn self (samplesIn (now (setpoints .entry)) (now (actuals .entry)))) r (now (out .exit)) ⌝ }
     {
-        let run = self.run;
-        let answer = run.samples(setpoints, actuals);
-        let next = answer.run;
-        self.quarter(next, out)
+        let answer = self.run.samples(setpoints, actuals);
+        kept(self, Desk::quarter(answer.run, out))
     }
 
     // How many samples more are taken before a quarter hour is full; none where no run is open.
@@ -199,58 +218,49 @@ impl Desk {
         ensures { λ r. ⌜ r ≡ roomAt (self .stage) (self .run) ⌝ }
     {
         let stage = self.stage;
-        let run = self.run;
         match stage {
             Stage::Empty => 0,
-            Stage::Open => run.room(),
+            Stage::Open => self.run.room(),
             Stage::Closed => 0,
         }
     }
 
     fn end(self, number: u64, out: &mut [u8]) -> Told
-        ensures { λ r. ⌜ Tells (now (out .entry)) self (endTurn self number) r (now (out .exit)) ⌝ }
+        ensures { λ r. ⌜ Turned (now (out .entry)) (endTurn self number) r (now (out .exit)) ⌝ }
     {
-        let run = self.run;
-        let ended = run.end();
+        let ended = self.run.end();
         let refusal = ended.refusal;
         if refusal.number() != 0 {
             return self.refused(number, refusal, out);
         }
-        let next = ended.run;
-        let after = Desk {
-            run: next,
-            stage: Stage::Closed,
-        };
         let printed = print_total(out, ended.quarters, ended.fees, ended.penalties);
-        answer(self, after, printed)
+        Desk::told(ended.run, Stage::Closed, printed)
     }
 
-    // Before the header any other line comes too early.
-    fn first(self, number: u64, line: &[u8], out: &mut [u8]) -> Told
-        ensures { λ r. ⌜ Tells (now (out .entry)) self (firstTurn self number (lineOf (now (line .entry)))) r (now (out .exit)) ⌝ }
+    // What the run is asked, where the line comes in its place.
+    fn served(self, number: u64, said: Line, line: &[u8], out: &mut [u8]) -> Told
+        ensures { λ r. ⌜ Turned (now (out .entry)) (servedTurn self number (now (line .entry)) said) r (now (out .exit)) ⌝ }
     {
-        let said = read(line);
         match said {
             Line::Header(header) => self.open(number, header, out),
-            Line::Contract(_) => self.refused(number, Refusal::WrongMoment, out),
-            Line::Sample(_) => self.refused(number, Refusal::WrongMoment, out),
-            Line::End => self.refused(number, Refusal::WrongMoment, out),
-            Line::Malformed => self.refused(number, Refusal::BadLine, out),
-        }
-    }
-
-    // After it a second one comes too late.
-    fn next(self, number: u64, line: &[u8], out: &mut [u8]) -> Told
-        ensures { λ r. ⌜ Tells (now (out .entry)) self (nextTurn self number (now (line .entry)) (lineOf (now (line .entry)))) r (now (out .exit)) ⌝ }
-    {
-        let said = read(line);
-        match said {
-            Line::Header(_) => self.refused(number, Refusal::WrongMoment, out),
             Line::Contract(contract) => self.contract(number, contract, identifier(line), out),
             Line::Sample(sample) => self.sample(number, sample, out),
             Line::End => self.end(number, out),
             Line::Malformed => self.refused(number, Refusal::BadLine, out),
         }
+    }
+
+    // A line while the desk reads.
+    fn turn(self, number: u64, line: &[u8], out: &mut [u8]) -> Told
+        ensures { λ r. ⌜ Turned (now (out .entry)) (placedTurn self number (now (line .entry)) (lineOf (now (line .entry)))) r (now (out .exit)) ⌝ }
+    {
+        let stage = self.stage;
+        let said = read(line);
+        let refusal = misplaced(stage, said);
+        if refusal.number() != 0 {
+            return self.refused(number, refusal, out);
+        }
+        self.served(number, said, line, out)
     }
 
     // Whether the end or a refusal was printed: then nothing is read any more.
@@ -269,30 +279,26 @@ impl Desk {
     pub fn line(self, number: u64, line: &[u8], out: &mut [u8]) -> Told
         ensures { λ r. ⌜ Tells (now (out .entry)) self (lineTurn self number (now (line .entry))) r (now (out .exit)) ⌝ }
     {
-        let stage = self.stage;
-        match stage {
-            Stage::Empty => self.first(number, line, out),
-            Stage::Open => self.next(number, line, out),
-            Stage::Closed => Told {
+        if self.is_closed() {
+            return Told {
                 desk: self,
                 printed: Printed::Length(0),
-            },
+            };
         }
+        kept(self, self.turn(number, line, out))
     }
 
     // The input ended, after so many complete lines.
     pub fn finish(self, count: u64, out: &mut [u8]) -> Told
         ensures { λ r. ⌜ Tells (now (out .entry)) self (finishTurn self count) r (now (out .exit)) ⌝ }
     {
-        let stage = self.stage;
-        let number = std::num::wrapping_add_u64(count, 1);
-        match stage {
-            Stage::Empty => self.refused(number, Refusal::NoEnd, out),
-            Stage::Open => self.refused(number, Refusal::NoEnd, out),
-            Stage::Closed => Told {
+        if self.is_closed() {
+            return Told {
                 desk: self,
                 printed: Printed::Length(0),
-            },
+            };
         }
+        let number = std::num::wrapping_add_u64(count, 1);
+        kept(self, self.refused(number, Refusal::NoEnd, out))
     }
 }

@@ -7,23 +7,36 @@ use lib.Seq.{length-take-le}
 use Rattle.calls.proofs.print.Statement.{statement}
 use Rattle.calls.proofs.print.Tie as tie
 
-text-length-requires : tie.Need-text-length-requires
-text-length-requires c κs = search needs
+dotted-requires : tie.Need-dotted-requires
+dotted-requires c κs = search needs
+
+slice-aggregate-printed : tie.Need-slice-aggregate-printed
+slice-aggregate-printed c = search needs
+
+printed-requires : tie.Need-printed-requires
+printed-requires c κs = search needs
+
+length-of-requires : tie.Need-length-of-requires
+length-of-requires c κs = search needs
 
 lent-requires : tie.Need-lent-requires
 lent-requires c κs = search needs
 
-dotted-requires : tie.Need-dotted-requires
-dotted-requires c κs = search needs
+dotted-requires-2 : tie.Need-dotted-requires-2
+dotted-requires-2 c κs = search needs
 
 array-borrow-prefix-buf : tie.Need-array-borrow-prefix-buf
 array-borrow-prefix-buf c = search needs
 
-slice-aggregate-print-into : tie.Need-slice-aggregate-print-into
-slice-aggregate-print-into c = sym (length-take-le _ _ (omega (arith, c .before .dotted .ensures)))
+slice-aggregate-lent : tie.Need-slice-aggregate-lent
+slice-aggregate-lent c =
+    sym (length-take-le _ _ (omega (arith, c .before .dotted2 .ensures, c .before .before .lent .ensures)))
 
-print-into-requires : tie.Need-print-into-requires
-print-into-requires c κs = search needs
+printed-requires-2 : tie.Need-printed-requires-2
+printed-requires-2 c κs = search needs
+
+showed-whole-requires : tie.Need-showed-whole-requires
+showed-whole-requires c κs = search needs
 
 returns : tie.Need-returns
 returns c = search needs
@@ -32,10 +45,14 @@ pub print-spec : {M : Type 1} → statement M
 print-spec =
     tie.close
     (tie.spec
-    text-length-requires
-    lent-requires
     dotted-requires
+    slice-aggregate-printed
+    printed-requires
+    length-of-requires
+    lent-requires
+    dotted-requires-2
     array-borrow-prefix-buf
-    slice-aggregate-print-into
-    print-into-requires
+    slice-aggregate-lent
+    printed-requires-2
+    showed-whole-requires
     returns)

@@ -10,11 +10,11 @@ use Rattle.calls.proofs.answer.showed.Tie as tie
 length-of-requires : tie.Need-length-of-requires
 length-of-requires c κs = search needs
 
-slice-aggregate-write : tie.Need-slice-aggregate-write
-slice-aggregate-write c = sym (length-take-le _ _ (omega arith))
+slice-aggregate-write-all : tie.Need-slice-aggregate-write-all
+slice-aggregate-write-all c = sym (length-take-le _ _ (omega arith))
 
-write-requires : tie.Need-write-requires
-write-requires c κs = search needs
+write-all-requires : tie.Need-write-all-requires
+write-all-requires c κs = search needs
 
 returns : tie.Need-returns
 returns c = search needs
@@ -24,4 +24,4 @@ returns-2 c = search needs
 
 pub showed-spec : {M : Type 1} → statement M
 showed-spec =
-    tie.close (tie.spec length-of-requires slice-aggregate-write write-requires returns returns-2)
+    tie.close (tie.spec length-of-requires slice-aggregate-write-all write-all-requires returns returns-2)

@@ -3,9 +3,10 @@
 use native.Mathlib.Omega.{arith}
 use Prim.Native.Nat.{_-_, _<_}
 use lib.ListN.{take}
-use Rattle.claims.specs.Sides.{claimAt}
+use Rattle.arithmetic.specs.Energy.{kwh}
+use Rattle.claims.specs.Views.{claimAt}
 use Rattle.claims.specs.Powers.{next}
-use Rattle.claims.specs.Blank.{kwh, noClaims}
+use Rattle.claims.specs.Blank.{noClaims}
 use Rattle.claims.proofs.Blanks.{claims-32}
 use Rattle.claims.proofs.claim.joined.Statement.{statement}
 use Rattle.series.proofs.Scanned.{Scanned, scanned-none, first-more, first-all}

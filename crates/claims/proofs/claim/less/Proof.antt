@@ -1,6 +1,6 @@
 -- `claims::claim::less` meets its contract.
 -- Assumes nothing.
-use Rattle.claims.specs.Blank.{kwh}
+use Rattle.arithmetic.specs.Energy.{kwh}
 use Rattle.claims.proofs.claim.less.Statement.{statement}
 use native.Mathlib.Omega.{arith}
 use mathlib.Core.Path.{ap}

@@ -1,6 +1,6 @@
 -- `claims::claim::smaller` meets its contract.
 -- Assumes nothing.
-use Rattle.claims.specs.Blank.{kwh}
+use Rattle.arithmetic.specs.Energy.{kwh}
 use Rattle.claims.proofs.claim.smaller.Statement.{statement}
 use Rattle.arithmetic.specs.Whole.{leastOf}
 use native.Mathlib.Omega.{arith}

@@ -2,7 +2,7 @@
 -- Assumes nothing.
 use native.Mathlib.Omega.{arith}
 use Prim.Native.Nat.{_-_}
-use Rattle.claims.specs.Sides.{energyHeld}
+use Rattle.claims.specs.Views.{energyHeld}
 use Rattle.claims.specs.Blank.{noEnergies}
 use Rattle.claims.proofs.Blanks.{energies-32}
 use Rattle.claims.proofs.energies.energies.Statement.{statement}

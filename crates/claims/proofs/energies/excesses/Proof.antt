@@ -4,7 +4,7 @@ use native.Mathlib.Omega.{arith}
 use Prim.Native.Nat.{_-_}
 use Rattle.series.proofs.Scanned.{Scanned, scanned-none, scanned-more, scanned-whole}
 use Rattle.claims.specs.Powers.{next}
-use Rattle.claims.specs.Sides.{lessAt}
+use Rattle.claims.specs.Views.{lessAt}
 use Rattle.claims.proofs.energies.excesses.Statement.{statement}
 use Rattle.claims.proofs.energies.excesses.Tie as tie
 

@@ -4,7 +4,7 @@ use native.Mathlib.Omega.{arith}
 use Rattle.vocabulary.specs.declared.direction.Direction.the-variants.{Positive, Negative}
 use Rattle.claims.specs.Claims.{samplesOf, measuredHeld}
 use Rattle.claims.proofs.Quarters.{samples-few}
-use Rattle.claims.proofs.SideLaws.{both, timely}
+use Rattle.claims.proofs.ViewLaws.{both, timely}
 use Rattle.claims.proofs.hour.measure.Statement.{statement}
 use Rattle.contracts.specs.Terms.{termsIn}
 use Rattle.claims.proofs.hour.measure.Tie as tie

@@ -15,9 +15,4 @@ unfolding takenText
 returns c = c .before .before .print-quarter .ensures
 
 pub print-taken-spec : {M : Type 1} → statement M
-print-taken-spec =
-    tie.close
-    (tie.spec
-    print-quarter-requires
-    same-length
-    returns)
+print-taken-spec = tie.close (tie.spec print-quarter-requires same-length returns)

@@ -1,5 +1,5 @@
 -- `text::desk::Desk::contract` meets its contract. Assumes nothing.
-use Rattle.text.proofs.Telling.{as-turn, silent, refuses, goes-on}
+use Rattle.text.proofs.Telling.{silent, as-turned, refuses, goes-on}
 use Rattle.text.specs.Desk.{contractTurn}
 use Rattle.settlement.specs.declared.run.Answer.{Answer}
 use mathlib.Core.Path.{ap}
@@ -23,23 +23,19 @@ returns : tie.Need-returns
 unfolding contractTurn
 returns c =
     let at-if1 = c .before .before .before .before in
-    let at-number = at-if1 .before in
-    let at-contract = at-number .before .before in
-    as-turn (refuses _ _ _ (at-number .number .ensures)
-    (ap (λ (a : Answer). a .refusal) (at-contract .contract .ensures))
-    (at-if1 .if1 .taken)) (c .before .before .refused .ensures)
+    let at-call = at-if1 .before .before in
+    as-turned (refuses _ _ _ (at-if1 .before .number .ensures) (ap (λ (a : Answer). a .refusal) (at-call .contract .ensures)) (at-if1 .if1 .taken)) (c .before .before .refused .ensures)
 
-goes-on-requires : tie.Need-goes-on-requires
-goes-on-requires c κs = search needs
+told-requires : tie.Need-told-requires
+told-requires c κs = search needs
 
 returns-2 : tie.Need-returns-2
 unfolding contractTurn
 returns-2 c =
-    let at-contract = c .before .before .before .before in
-    as-turn (goes-on _ _ _ (c .before .before .number .ensures) (ap (λ (a : Answer). a .refusal) (at-contract .contract .ensures)) (c .before .if1 .left))
-    (rw (← at-contract .contract .ensures, c .goes-on .ensures) (silent _ _ _))
+    let at-if1 = c .before in
+    let at-call = at-if1 .before .before in
+    as-turned (goes-on _ _ _ (at-if1 .before .number .ensures) (ap (λ (a : Answer). a .refusal) (at-call .contract .ensures)) (at-if1 .if1 .left))
+    (rw (← at-call .contract .ensures, c .told .ensures) (silent _ _))
 
 pub contract-spec : {M : Type 1} → statement M
-contract-spec =
-    tie.close
-    (tie.spec contract-requires number-requires refused-requires same-length returns goes-on-requires returns-2)
+contract-spec = tie.close (tie.spec contract-requires number-requires refused-requires same-length returns told-requires returns-2)

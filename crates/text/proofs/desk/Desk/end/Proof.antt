@@ -1,5 +1,5 @@
 -- `text::desk::Desk::end` meets its contract. Assumes nothing.
-use Rattle.text.proofs.Telling.{told, as-turn, refuses, goes-on}
+use Rattle.text.proofs.Telling.{turned, as-turned, refuses, goes-on}
 use Rattle.text.specs.Desk.{endTurn}
 use Rattle.settlement.specs.declared.run.Ended.{Ended}
 use mathlib.Core.Path.{ap}
@@ -24,16 +24,14 @@ returns : tie.Need-returns
 unfolding endTurn
 returns c =
     let at-if1 = c .before .before .before .before in
-    let at-number = at-if1 .before in
-    let at-end = at-number .before in
-    as-turn (refuses _ _ _ (at-number .number .ensures)
-    (ap (λ (a : Ended). a .refusal) (at-end .end .ensures)) (at-if1 .if1 .taken)) (c .before .before .refused .ensures)
+    let at-call = at-if1 .before .before in
+    as-turned (refuses _ _ _ (at-if1 .before .number .ensures) (ap (λ (e : Ended). e .refusal) (at-call .end .ensures)) (at-if1 .if1 .taken)) (c .before .before .refused .ensures)
 
 print-total-requires : tie.Need-print-total-requires
 print-total-requires c κs = search needs
 
-answer-requires : tie.Need-answer-requires
-answer-requires c κs = search needs
+told-requires : tie.Need-told-requires
+told-requires c κs = search needs
 
 same-length-2 : tie.Need-same-length-2
 same-length-2 c = search needs
@@ -42,9 +40,10 @@ returns-2 : tie.Need-returns-2
 unfolding endTurn
 returns-2 c =
     let p = c .before .before .before .print-total .ensures in
-    as-turn (goes-on _ _ _ (c .before .before .before .before .before .before .before .number .ensures)
-    (ap (λ (a : Ended). a .refusal) (c .before .before .before .before .before .before .before .before .end .ensures)) (c .before .before .before .before .before .before .if1 .left))
-    (rw (← c .before .before .before .before .before .before .before .before .end .ensures) (told (c .answer .ensures) (p .0) (p .1 .0) (omega (arith, p .1 .1))))
+    let at-if1 = c .before .before .before .before .before in
+    let at-call = at-if1 .before .before in
+    as-turned (goes-on _ _ _ (at-if1 .before .number .ensures) (ap (λ (e : Ended). e .refusal) (at-call .end .ensures)) (at-if1 .if1 .left))
+    (rw (← at-call .end .ensures) (turned (c .told .ensures) (p .0) (p .1 .0) (omega (arith, p .1 .1))))
 
 pub end-spec : {M : Type 1} → statement M
 end-spec =
@@ -56,6 +55,6 @@ end-spec =
     same-length
     returns
     print-total-requires
-    answer-requires
+    told-requires
     same-length-2
     returns-2)

@@ -1,5 +1,5 @@
 -- `text::desk::Desk::sample` meets its contract. Assumes nothing.
-use Rattle.text.proofs.Telling.{as-turn, refuses, goes-on}
+use Rattle.text.proofs.Telling.{as-turned, refuses, goes-on}
 use Rattle.text.specs.Desk.{sampleTurn}
 use Rattle.settlement.specs.declared.run.Answer.{Answer}
 use mathlib.Core.Path.{ap}
@@ -23,11 +23,8 @@ returns : tie.Need-returns
 unfolding sampleTurn
 returns c =
     let at-if1 = c .before .before .before .before in
-    let at-number = at-if1 .before in
-    let at-sample = at-number .before .before in
-    as-turn (refuses _ _ _ (at-number .number .ensures)
-    (ap (λ (a : Answer). a .refusal) (at-sample .sample .ensures))
-    (at-if1 .if1 .taken)) (c .before .before .refused .ensures)
+    let at-call = at-if1 .before .before in
+    as-turned (refuses _ _ _ (at-if1 .before .number .ensures) (ap (λ (a : Answer). a .refusal) (at-call .sample .ensures)) (at-if1 .if1 .taken)) (c .before .before .refused .ensures)
 
 quarter-requires : tie.Need-quarter-requires
 quarter-requires c κs = search needs
@@ -39,11 +36,9 @@ returns-2 : tie.Need-returns-2
 unfolding sampleTurn
 returns-2 c =
     let at-if1 = c .before .before .before .before in
-    let at-number = at-if1 .before in
-    let at-sample = at-number .before .before in
-    as-turn (goes-on _ _ _ (at-number .number .ensures)
-    (ap (λ (a : Answer). a .refusal) (at-sample .sample .ensures))
-    (at-if1 .if1 .left)) (rw (← at-sample .sample .ensures) (c .before .before .quarter .ensures))
+    let at-call = at-if1 .before .before in
+    as-turned (goes-on _ _ _ (at-if1 .before .number .ensures) (ap (λ (a : Answer). a .refusal) (at-call .sample .ensures)) (at-if1 .if1 .left))
+    (rw (← at-call .sample .ensures) (c .before .before .quarter .ensures))
 
 pub sample-spec : {M : Type 1} → statement M
 sample-spec =

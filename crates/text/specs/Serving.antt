@@ -1,0 +1,64 @@
+-- How the code serves a line: whether it comes in its place, and then what the run is asked. `lineTurn` says the same by stages.
+use Prim.Native.Nat.{ℕ, _≤_}
+use mathlib.Core.Path.{_≡_}
+use mathlib.Core.List.{List}
+use lib.ListN.{length}
+use Rattle.vocabulary.specs.declared.refusal.Refusal.{Refusal}
+use Rattle.vocabulary.specs.declared.refusal.Refusal.the-variants.{None, WrongMoment, BadLine}
+use Rattle.settlement.specs.declared.run.Run.{Run}
+use Rattle.settlement.specs.Run.{headingOf}
+use Rattle.sheets.specs.Buffer.{bufferLength, printAnswer, printInto}
+use Rattle.sheets.specs.declared.Printed.{Printed}
+use Rattle.reading.specs.Line.{identifierOf}
+use Rattle.reading.specs.declared.Line.{Line}
+use Rattle.reading.specs.declared.Line.the-variants as L
+use Rattle.text.specs.declared.desk.Stage.{Stage}
+use Rattle.text.specs.declared.desk.Stage.the-variants.{Empty, Open, Closed}
+use Rattle.text.specs.declared.desk.Desk.{Desk}
+use Rattle.text.specs.declared.desk.Told.{Told}
+use Rattle.text.specs.Desk.{Turn, deskAt, headOf, unless, refusedTurn, openTurn, contractTurn, sampleTurn, endTurn}
+
+-- what is wrong with a line before the header
+abbrev pub early : Line → Refusal
+early (L.Header header) = None
+early (L.Contract contract) = WrongMoment
+early (L.Sample sample) = WrongMoment
+early L.End = WrongMoment
+early L.Malformed = BadLine
+
+-- and after it
+abbrev pub late : Line → Refusal
+late (L.Header header) = WrongMoment
+late (L.Contract contract) = None
+late (L.Sample sample) = None
+late L.End = None
+late L.Malformed = BadLine
+
+abbrev pub misplacedAt : Stage → Line → Refusal
+misplacedAt Empty said = early said
+misplacedAt Open said = late said
+misplacedAt Closed said = None
+
+-- what the run is asked by a line in its place
+unfoldable pub servedTurn : Desk → ℕ → List ℕ → Line → Turn
+servedTurn desk number line (L.Header header) = openTurn desk number header
+servedTurn desk number line (L.Contract contract) = contractTurn desk number contract (identifierOf line)
+servedTurn desk number line (L.Sample sample) = sampleTurn desk number sample
+servedTurn desk number line L.End = endTurn desk number
+servedTurn desk number line L.Malformed = refusedTurn desk number BadLine
+
+unfoldable pub placedTurn : Desk → ℕ → List ℕ → Line → Turn
+placedTurn desk number line said = unless desk number (misplacedAt (desk .stage) said) (servedTurn desk number line said)
+
+-- a header was accepted: the run is open, and V is printed
+abbrev pub begunTurn : Run → Turn
+begunTurn run = record { desk = deskAt Open run; text = headOf (headingOf run) }
+
+abbrev pub toldBy : Desk → Printed → Told
+toldBy desk printed = record { desk = desk; printed = printed }
+
+-- a call prints a turn: the desk after it, whether or not the buffer was long enough, and the bytes of the buffer
+pub record Turned (out : List ℕ) (turn : Turn) (r : Told) (out′ : List ℕ) : Type 0 where
+  pub told : r ≡ toldBy (turn .desk) (printAnswer out (turn .text))
+  pub bytes : out′ ≡ printInto out (turn .text)
+  pub room : length (turn .text) ≤ bufferLength
