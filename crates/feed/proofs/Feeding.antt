@@ -1,9 +1,8 @@
 -- THE PROMISE OF THIS CRATE: whoever feeds an input to a reader, cut in any way, and says where it ended, has printed `settle` of the input.
-use Prim.Native.Nat.{ℕ, _+_, _%_, _≤_, _<_, _^_}
+use Prim.Native.Nat.{ℕ, _+_, _≤_, _<_, _^_}
 use mathlib.Core.Path.{_≡_, refl, sym, ap, _∙_}
 use mathlib.Core.Bool.{Bool, true, cond}
 use mathlib.Core.List.{List, [], _∷_, _++_, append-assoc, append-nil}
-use native.Mathlib.Omega.{arith}
 use native.Mathlib.Decide.{ℕ-discrete}
 use borrow.Author.Tests.{le-ltb}
 use lib.ListN.{length, take, drop}
@@ -12,17 +11,15 @@ use Rattle.lines.specs.Feed.{Outcome}
 use Rattle.lines.specs.Gathering.{freshOf, longerBy, completed}
 use Rattle.lines.specs.Handing.{Progress, afterBytes}
 use Rattle.lines.specs.Lines.{linesOf}
-use Rattle.lines.specs.Turns.{quiet}
 use Rattle.lines.specs.declared.Gatherer.{Gatherer}
 use Rattle.lines.proofs.Calls.{after-end, after-other}
 use Rattle.lines.proofs.FeedMeaning.{handleBy, at, goes-on-after}
 use Rattle.sheets.specs.Buffer.{bufferLength}
 use Rattle.sheets.specs.declared.Printed.the-variants.{Length, TooShort}
-use Rattle.text.specs.Desk.{Turn, closedAt, turnAt, lineTurn, finishAt, finishTurn}
+use Rattle.text.specs.Desk.{Turn, lineTurn, finishTurn}
 use Rattle.text.specs.Settle.{andThen, withEnd, settle}
-use Rattle.text.specs.declared.desk.Stage.{Stage}
-use Rattle.text.specs.declared.desk.Stage.the-variants.{Empty, Open, Closed}
 use Rattle.text.specs.declared.desk.Desk.{Desk}
+use Rattle.text.proofs.Telling.{line-closed, finish-closed}
 use Rattle.text.proofs.WholeInput.{settles}
 use Rattle.feed.specs.Reader.{emptyReader, closedOf, feedOf, finishOf, readerOf, over, Yields, lengthOf}
 use Rattle.feed.specs.Feeding.{Feeds, used-up, closed, call}
@@ -32,27 +29,9 @@ use Rattle.feed.specs.declared.Fed.{Fed}
 -- ---- a closed desk prints nothing
 
 module _ (d : Desk) (shut : closedOf d ≡ true) where
-  line-closed : (number : ℕ) (line : List ℕ) → lineTurn d number line ≡ quiet d
-  unfolding lineTurn
-  line-closed number line = by-stage (d .stage) shut
-    where
-      by-stage : (stage : Stage) → closedAt stage ≡ true → turnAt stage d number line ≡ quiet d
-      by-stage Empty e = absurd (let z : _≡_ {A = ℕ} 0 1 = cc in (omega arith))
-      by-stage Open e = absurd (let z : _≡_ {A = ℕ} 0 1 = cc in (omega arith))
-      by-stage Closed e = refl
-
-  finish-closed : (count : ℕ) → finishTurn d count ≡ quiet d
-  unfolding finishTurn
-  finish-closed count = by-stage (d .stage) shut
-    where
-      by-stage : (stage : Stage) → closedAt stage ≡ true → finishAt stage d ((count + 1) % 2 ^ 64) ≡ quiet d
-      by-stage Empty e = absurd (let z : _≡_ {A = ℕ} 0 1 = cc in (omega arith))
-      by-stage Open e = absurd (let z : _≡_ {A = ℕ} 0 1 = cc in (omega arith))
-      by-stage Closed e = refl
-
   handled : (so : List ℕ) (g : Gatherer) → handleBy lineTurn (record { desk = d; text = so }) g ≡ record { desk = d; text = so }
   handled so g =
-      ap (λ (t : Turn). record { desk = t .desk; text = so ++ t .text }) (line-closed (g .count) _)
+      ap (λ (t : Turn). record { desk = t .desk; text = so ++ t .text }) (line-closed d shut (g .count) _)
       ∙ ap (λ (l : List ℕ). record { desk = d; text = l }) (append-nil so)
 
   after-closed : (bytes : List ℕ) (g : Gatherer) (so : List ℕ) → afterBytes (handleBy lineTurn) (at g d so) bytes .state ≡ record { desk = d; text = so }

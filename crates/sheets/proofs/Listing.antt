@@ -6,7 +6,7 @@ use lib.IntN.{pos}
 use Rattle.arithmetic.specs.Energy.{kwh}
 use Rattle.print.specs.Decimal.{digitsIn, digits, numberText, twoDigits, fourDigits, dateText}
 use Rattle.print.specs.Fields.{tabbed}
-use Rattle.sheets.specs.Sheet.{lineText, headText, poolText, energiesOf, restOf, contractText, contractsText, sideText, quarterText, totalText, refusalText}
+use Rattle.sheets.specs.Sheet.{lineText, headText, poolText, energiesOf, restFields, contractText, contractsText, sideText, quarterText, totalText, refusalText}
 use Rattle.arithmetic.specs.declared.money.Cents.{Cents}
 use Rattle.vocabulary.specs.declared.interval.Interval.the-variants.{Four}
 use Rattle.contracts.specs.declared.book.Awarded.{Awarded}
@@ -66,7 +66,7 @@ pub listing-quarter : quarterText 0 (record { positive = positive; negative = ne
     ∷ 9 ∷ 48 ∷ 9 ∷ 48 ∷ 9 ∷ 49 ∷ 53 ∷ 48 ∷ 48 ∷ 9 ∷ 55 ∷ 53 ∷ 48 ∷ 48 ∷ 9 ∷ 48 ∷ 10 ∷ 75 ∷ 9 ∷ 48 ∷ 9 ∷ 80 ∷ 9 ∷ 65 ∷ 50 ∷ 9 ∷ 49 ∷ 48 ∷ 48 ∷ 48 ∷ 9
     ∷ 57 ∷ 56 ∷ 57 ∷ 9 ∷ 57 ∷ 52 ∷ 52 ∷ 9 ∷ 53 ∷ 54 ∷ 9 ∷ 52 ∷ 52 ∷ 9 ∷ 48 ∷ 9 ∷ 57 ∷ 56 ∷ 56 ∷ 9 ∷ 55 ∷ 57 ∷ 48 ∷ 52 ∷ 9 ∷ 48 ∷ 10 ∷ 81 ∷ 9 ∷ 48 ∷ 9
     ∷ 78 ∷ 9 ∷ 48 ∷ 9 ∷ 48 ∷ 9 ∷ 48 ∷ 9 ∷ 48 ∷ 9 ∷ 48 ∷ 9 ∷ 48 ∷ 9 ∷ 48 ∷ 9 ∷ 48 ∷ 9 ∷ 48 ∷ 9 ∷ 48 ∷ 9 ∷ 48 ∷ 10 ∷ []
-unfolding quarterText sideText contractsText contractText energiesOf restOf poolText lineText tabbed numberText digits digitsIn
+unfolding quarterText sideText contractsText contractText energiesOf restFields poolText lineText tabbed numberText digits digitsIn
 listing-quarter = refl
 
 pub listing-total : totalText 1 (cents 15404) (cents 0) ≡ 84 ∷ 9 ∷ 49 ∷ 9 ∷ 49 ∷ 53 ∷ 52 ∷ 48 ∷ 52 ∷ 9 ∷ 48 ∷ 10 ∷ []
