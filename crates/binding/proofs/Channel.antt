@@ -4,6 +4,9 @@ use Rattle.binding.specs.Single.{Single}
 use Rattle.binding.proofs.Arithmetic.{units-single}
 use Rattle.channel.proofs.Channel.new.Reads as new
 use Rattle.channel.proofs.Channel.follow.Reads as follow
+use Rattle.channel.proofs.Channel.recalled.Reads as recalled
+use Rattle.channel.proofs.Channel.bounded.Reads as bounded
+use Rattle.channel.proofs.Channel.back.Reads as back
 use Rattle.channel.proofs.Channel.along.Reads as along
 use Rattle.channel.proofs.Channel.sized.Reads as sized
 use Rattle.channel.proofs.Channel.oga.Reads as oga
@@ -18,6 +21,15 @@ new-single κs a r r′ x x′ p q = p .0 ∙ sym (q .0)
 
 follow-single : Single follow.Post
 follow-single κs a r r′ x x′ p q = p .0 ∙ sym (q .0)
+
+recalled-single : Single recalled.Post
+recalled-single κs a r r′ x x′ p q = p .0 ∙ sym (q .0)
+
+bounded-single : Single bounded.Post
+bounded-single κs a r r′ x x′ p q = p .0 ∙ sym (q .0)
+
+back-single : Single back.Post
+back-single κs a r r′ x x′ p q = p ∙ sym q
 
 along-single : Single along.Post
 along-single κs a r r′ x x′ p q = p ∙ sym q

@@ -6,6 +6,7 @@ use lib.ListN.{getD}
 use Rattle.arithmetic.specs.Whole.{up}
 use Rattle.series.specs.Scan.{outputs}
 use Rattle.vocabulary.specs.declared.interval.Interval.{Interval}
+use Rattle.channel.specs.Start.{Start}
 use Rattle.channel.specs.Backward.{ogaOf, ugaOf}
 use Rattle.vocabulary.specs.declared.direction.Direction.{Direction}
 use Rattle.values.specs.declared.value.Quantity.{Quantity}
@@ -34,17 +35,17 @@ powerAt d x q i s =
 abbrev pub powersOf : Direction → Samples → Quantity → List ℕ
 powersOf d x q = outputs next (powerAt d x q) 0 (x .setpoints)
 
--- ---- the bounds along the setpoints of a quarter hour, by a series of setpoints, newest first, that came before them
+-- ---- the bounds along the setpoints of a quarter hour, by a start and a series of setpoints, newest first, that came before them
 
 -- OGA and UGA of the series at each of the setpoints
-unfoldable pub ogasOver : Interval → ℕ → List ℤ → List ℤ → List ℤ
-ogasOver i lot h [] = []
-ogasOver i lot h (s ∷ ss) = ogaOf i lot (s ∷ h) ∷ ogasOver i lot (s ∷ h) ss
+unfoldable pub ogasOver : Interval → ℕ → Start → List ℤ → List ℤ → List ℤ
+ogasOver i lot start h [] = []
+ogasOver i lot start h (s ∷ ss) = ogaOf i lot start (s ∷ h) ∷ ogasOver i lot start (s ∷ h) ss
 
-unfoldable pub ugasOver : Interval → ℕ → List ℤ → List ℤ → List ℤ
-ugasOver i lot h [] = []
-ugasOver i lot h (s ∷ ss) = ugaOf i lot (s ∷ h) ∷ ugasOver i lot (s ∷ h) ss
+unfoldable pub ugasOver : Interval → ℕ → Start → List ℤ → List ℤ → List ℤ
+ugasOver i lot start h [] = []
+ugasOver i lot start h (s ∷ ss) = ugaOf i lot start (s ∷ h) ∷ ugasOver i lot start (s ∷ h) ss
 
 -- the samples of a quarter hour that comes after a series
-abbrev pub samplesOver : Interval → ℕ → List ℤ → List ℤ → List ℤ → Samples
-samplesOver i lot h ss vs = samples ss vs (ogasOver i lot h ss) (ugasOver i lot h ss)
+abbrev pub samplesOver : Interval → ℕ → Start → List ℤ → List ℤ → List ℤ → Samples
+samplesOver i lot start h ss vs = samples ss vs (ogasOver i lot start h ss) (ugasOver i lot start h ss)

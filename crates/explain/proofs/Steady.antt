@@ -22,6 +22,7 @@ use Rattle.vocabulary.specs.declared.direction.Direction.{Direction}
 use Rattle.vocabulary.specs.declared.direction.Direction.the-variants.{Positive, Negative}
 use Rattle.bounds.specs.declared.side.Side.the-variants.{Upper, Lower}
 use Rattle.bounds.proofs.Outside.{Outside}
+use Rattle.channel.specs.Start.{Start}
 use Rattle.channel.specs.Backward.{seriesAfter}
 use Rattle.channel.proofs.Enclosed.{ogaOf-outside, ugaOf-outside}
 use Rattle.values.specs.declared.value.Quantity.{Quantity}
@@ -32,7 +33,7 @@ use Rattle.claims.specs.Powers.{Samples, next, powerAt, powersOf, ogasOver, uga
 use Rattle.claims.proofs.PowerLaws.{power-is}
 use Rattle.claims.proofs.Joining.{along}
 use Rattle.claims.proofs.Rests.{awarded}
-use Rattle.meaning.specs.Given.{Given, intervalIn, lotIn, secondsIn, setpointIn, actualIn, quarterSamples, samplesBefore, setpointsIn, termsIn, powersIn, linesIn, poolIn}
+use Rattle.meaning.specs.Given.{Given, intervalIn, lotIn, startIn, secondsIn, setpointIn, actualIn, quarterSamples, samplesBefore, setpointsIn, termsIn, powersIn, linesIn, poolIn}
 use Rattle.meaning.proofs.Bounds.{samples-told}
 use Rattle.explain.specs.Explained.{Column, SO, IS, AK, onLine, onPool, restOn}
 use Rattle.explain.proofs.Added.{quantityOf, lines-exact, pool-exact, rest-exact}
@@ -59,22 +60,22 @@ all-accepted AK Negative s oga uga o u = omega (arith, down-reached s uga u)
 
 -- ---- a quarter hour
 
-module _ (i : Interval) (lot : ℕ) where
-  oga-outside-at : (h ss : List ℤ) (k : ℕ) → k < length ss → Outside Upper (getD (ogasOver i lot h ss) k (pos 0)) (unitsOf (getD ss k (pos 0)))
+module _ (i : Interval) (lot : ℕ) (start : Start) where
+  oga-outside-at : (h ss : List ℤ) (k : ℕ) → k < length ss → Outside Upper (getD (ogasOver i lot start h ss) k (pos 0)) (unitsOf (getD ss k (pos 0)))
   unfolding ogasOver
   oga-outside-at h [] k l = absurd (omega arith)
-  oga-outside-at h (s ∷ ss) zero l = ogaOf-outside i lot s h
+  oga-outside-at h (s ∷ ss) zero l = ogaOf-outside i lot start s h
   oga-outside-at h (s ∷ ss) (suc k) l = oga-outside-at (s ∷ h) ss k (omega arith)
 
-  uga-outside-at : (h ss : List ℤ) (k : ℕ) → k < length ss → Outside Lower (getD (ugasOver i lot h ss) k (pos 0)) (unitsOf (getD ss k (pos 0)))
+  uga-outside-at : (h ss : List ℤ) (k : ℕ) → k < length ss → Outside Lower (getD (ugasOver i lot start h ss) k (pos 0)) (unitsOf (getD ss k (pos 0)))
   unfolding ugasOver
   uga-outside-at h [] k l = absurd (omega arith)
-  uga-outside-at h (s ∷ ss) zero l = ugaOf-outside i lot s h
+  uga-outside-at h (s ∷ ss) zero l = ugaOf-outside i lot start s h
   uga-outside-at h (s ∷ ss) (suc k) l = uga-outside-at (s ∷ h) ss k (omega arith)
 
-module _ (c : Column) (d : Direction) (i : Interval) (lot : ℕ) (h ss : List ℤ) where
+module _ (c : Column) (d : Direction) (i : Interval) (lot : ℕ) (start : Start) (h ss : List ℤ) where
   abbrev x : Samples
-  x = samplesOver i lot h ss ss
+  x = samplesOver i lot start h ss ss
 
   power-at : (v : Quantity) (k : ℕ) → k < length ss
       → getD (powersOf d x v) k 0 ≡ amountOf v (partOf d (getD ss k (pos 0)) (getD ss k (pos 0)) (getD (x .ogas) k (pos 0)) (getD (x .ugas) k (pos 0)))
@@ -83,7 +84,7 @@ module _ (c : Column) (d : Direction) (i : Interval) (lot : ℕ) (h ss : List �
   same-at : (k : ℕ) → k < length ss → getD (powersOf d x (quantityOf c)) k 0 ≡ getD (powersOf d x Setpoint) k 0
   same-at k l =
       power-at (quantityOf c) k l
-      ∙ all-accepted c d (getD ss k (pos 0)) (getD (x .ogas) k (pos 0)) (getD (x .ugas) k (pos 0)) (oga-outside-at i lot h ss k l) (uga-outside-at i lot h ss k l)
+      ∙ all-accepted c d (getD ss k (pos 0)) (getD (x .ogas) k (pos 0)) (getD (x .ugas) k (pos 0)) (oga-outside-at i lot start h ss k l) (uga-outside-at i lot start h ss k l)
       ∙ sym (power-at Setpoint k l)
 
   same-powers : powersOf d x (quantityOf c) ≡ powersOf d x Setpoint
@@ -95,7 +96,7 @@ module _ (c : Column) (d : Direction) (i : Interval) (lot : ℕ) (h ss : List �
 module _ (c : Column) (d : Direction) (g : Given) (q : ℕ) (e : each actualIn (quarterSamples g q) ≡ setpointsIn g q) where
   steady-powers : powersIn d g q (quantityOf c) ≡ powersIn d g q Setpoint
   steady-powers =
-      rw (samples-told g q, e) (same-powers c d (intervalIn g) (lotIn g) (seriesAfter [] (each setpointIn (samplesBefore g q))) (setpointsIn g q))
+      rw (samples-told g q, e) (same-powers c d (intervalIn g) (lotIn g) (startIn g) (seriesAfter [] (each setpointIn (samplesBefore g q))) (setpointsIn g q))
 
   pub steady-pool : onPool c (poolIn d g q) ≡ onPool SO (poolIn d g q)
   unfolding poolIn

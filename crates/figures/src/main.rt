@@ -5,6 +5,7 @@ use channel::Channel;
 use libc::STDOUT_FILENO;
 use vocabulary::interval::Interval;
 ghost use mathlib.Core.Path.{_≡_};
+ghost use Rattle.channel.specs.Start.{fresh};
 ghost use Rattle.channel.specs.Backward.{ugaOf};
 ghost use Rattle.vocabulary.specs.declared.interval.Interval.the-variants.{One};
 ghost use Rattle.figures.specs.Jump.{setpointAt, jump};
@@ -17,7 +18,7 @@ fn setpoint_at(kw: i32, second: u32) -> i32
 
 // UGA after so many samples, in units.
 fn uga_after(kw: i32, samples: u32) -> Units
-    ensures { λ r. ⌜ r .0 ≡ ugaOf One 5000 (jump kw samples) ⌝ }
+    ensures { λ r. ⌜ r .0 ≡ ugaOf One 5000 fresh (jump kw samples) ⌝ }
 {
     let mut channel = Channel::new(Interval::One, 5_000);
     let mut second: u32 = 0;

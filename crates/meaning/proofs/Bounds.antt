@@ -9,20 +9,22 @@ use lib.IntN.{ℤ}
 use lib.ListN.{length, take, drop, length-append, take-append-drop, drop-of-length-le}
 use lib.Seq.{length-take-le, take-nil}
 use Rattle.vocabulary.specs.declared.interval.Interval.{Interval}
+use Rattle.channel.specs.Start.{Start}
 use Rattle.channel.specs.Bounds.{Past, ogaAt, ugaAt}
 use Rattle.channel.specs.Backward.{seriesAfter, ogaOf, ugaOf}
-use Rattle.channel.proofs.Timed.{told, told-after, series-end, oga-timed, uga-timed}
+use Rattle.channel.proofs.Series.{series-end}
+use Rattle.channel.proofs.Timed.{told, told-after, oga-timed, uga-timed}
 use Rattle.series.specs.Scan.{each}
 use Rattle.series.proofs.Scanned.{each-length}
 use Rattle.series.proofs.Each.{each-join}
 use Rattle.claims.specs.Powers.{Samples, samples, ogasOver, ugasOver, samplesOver}
-use Rattle.meaning.specs.Given.{Given, intervalIn, lotIn, perQuarter, setpointIn, actualIn, quarterSamples, samplesBefore, pastIn, boundsFrom, setpointsIn, samplesIn}
+use Rattle.meaning.specs.Given.{Given, intervalIn, lotIn, startIn, perQuarter, setpointIn, actualIn, quarterSamples, samplesBefore, pastIn, boundsFrom, setpointsIn, samplesIn}
 
 -- ---- one bound along some setpoints: `over` goes by the series so far, `of` and `at` are the bound, told backward and forward
 
-module _ (i : Interval) (lot : ℕ) where
+module _ (i : Interval) (lot : ℕ) (start : Start) where
   abbrev pastBy : List ℤ → Past
-  pastBy ss = record { interval = i; lot = lot; setpoints = ss }
+  pastBy ss = record { start = start; interval = i; lot = lot; setpoints = ss }
 
   module _ (of : List ℤ → ℤ) (over : List ℤ → List ℤ → List ℤ) (at : Past → ℕ → ℤ)
       (none : (h : List ℤ) → over h [] ≡ [])
@@ -48,30 +50,30 @@ module _ (i : Interval) (lot : ℕ) where
 
 abbrev pub toldSamples : Given → ℕ → Samples
 toldSamples g q =
-    samplesOver (intervalIn g) (lotIn g) (seriesAfter [] (each setpointIn (samplesBefore g q))) (setpointsIn g q) (each actualIn (quarterSamples g q))
+    samplesOver (intervalIn g) (lotIn g) (startIn g) (seriesAfter [] (each setpointIn (samplesBefore g q))) (setpointsIn g q) (each actualIn (quarterSamples g q))
 
-module _ (i : Interval) (lot : ℕ) where
-  ogas-none : (h : List ℤ) → ogasOver i lot h [] ≡ []
+module _ (i : Interval) (lot : ℕ) (start : Start) where
+  ogas-none : (h : List ℤ) → ogasOver i lot start h [] ≡ []
   unfolding ogasOver
   ogas-none h = refl
 
-  ogas-more : (h : List ℤ) (s : ℤ) (ss : List ℤ) → ogasOver i lot h (s ∷ ss) ≡ ogaOf i lot (s ∷ h) ∷ ogasOver i lot (s ∷ h) ss
+  ogas-more : (h : List ℤ) (s : ℤ) (ss : List ℤ) → ogasOver i lot start h (s ∷ ss) ≡ ogaOf i lot start (s ∷ h) ∷ ogasOver i lot start (s ∷ h) ss
   unfolding ogasOver
   ogas-more h s ss = refl
 
-  ugas-none : (h : List ℤ) → ugasOver i lot h [] ≡ []
+  ugas-none : (h : List ℤ) → ugasOver i lot start h [] ≡ []
   unfolding ugasOver
   ugas-none h = refl
 
-  ugas-more : (h : List ℤ) (s : ℤ) (ss : List ℤ) → ugasOver i lot h (s ∷ ss) ≡ ugaOf i lot (s ∷ h) ∷ ugasOver i lot (s ∷ h) ss
+  ugas-more : (h : List ℤ) (s : ℤ) (ss : List ℤ) → ugasOver i lot start h (s ∷ ss) ≡ ugaOf i lot start (s ∷ h) ∷ ugasOver i lot start (s ∷ h) ss
   unfolding ugasOver
   ugas-more h s ss = refl
 
-  ogas-forward : (a ss b : List ℤ) → ogasOver i lot (seriesAfter [] a) ss ≡ boundsFrom (ogaAt (pastBy i lot (a ++ (ss ++ b)))) (length a) ss
-  ogas-forward = forward i lot (ogaOf i lot) (ogasOver i lot) ogaAt ogas-none ogas-more (λ ss. oga-timed (pastBy i lot ss))
+  ogas-forward : (a ss b : List ℤ) → ogasOver i lot start (seriesAfter [] a) ss ≡ boundsFrom (ogaAt (pastBy i lot start (a ++ (ss ++ b)))) (length a) ss
+  ogas-forward = forward i lot start (ogaOf i lot start) (ogasOver i lot start) ogaAt ogas-none ogas-more (λ ss. oga-timed (pastBy i lot start ss))
 
-  ugas-forward : (a ss b : List ℤ) → ugasOver i lot (seriesAfter [] a) ss ≡ boundsFrom (ugaAt (pastBy i lot (a ++ (ss ++ b)))) (length a) ss
-  ugas-forward = forward i lot (ugaOf i lot) (ugasOver i lot) ugaAt ugas-none ugas-more (λ ss. uga-timed (pastBy i lot ss))
+  ugas-forward : (a ss b : List ℤ) → ugasOver i lot start (seriesAfter [] a) ss ≡ boundsFrom (ugaAt (pastBy i lot start (a ++ (ss ++ b)))) (length a) ss
+  ugas-forward = forward i lot start (ugaOf i lot start) (ugasOver i lot start) ugaAt ugas-none ugas-more (λ ss. uga-timed (pastBy i lot start ss))
 
 module _ (g : Given) (q : ℕ) where
   abbrev earlier : List ℤ
@@ -110,5 +112,5 @@ module _ (g : Given) (q : ℕ) where
   pub samples-told : samplesIn g q ≡ toldSamples g q
   samples-told =
       begins
-      ∙ ap (λ (ss : List ℤ). here (pastBy (intervalIn g) (lotIn g) ss) (length earlier)) parted
-      ∙ rw (ogas-forward (intervalIn g) (lotIn g) earlier (setpointsIn g q) after, ugas-forward (intervalIn g) (lotIn g) earlier (setpointsIn g q) after)
+      ∙ ap (λ (ss : List ℤ). here (pastBy (intervalIn g) (lotIn g) (startIn g) ss) (length earlier)) parted
+      ∙ rw (ogas-forward (intervalIn g) (lotIn g) (startIn g) earlier (setpointsIn g q) after, ugas-forward (intervalIn g) (lotIn g) (startIn g) earlier (setpointsIn g q) after)

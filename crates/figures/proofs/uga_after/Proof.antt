@@ -10,13 +10,14 @@ use mir.Val.{toZ, ofZ}
 use mir.ValLaws.{toZ-ofZ}
 use Rattle.arithmetic.proofs.Signed.{back32}
 use Rattle.vocabulary.specs.declared.interval.Interval.the-variants.{One}
-use Rattle.channel.specs.State.{Represents}
+use Rattle.channel.specs.Start.{fresh}
+use Rattle.channel.specs.State.{StandsFor}
 use Rattle.figures.specs.Jump.{jump}
 use Rattle.figures.proofs.uga_after.Statement.{statement}
 use Rattle.figures.proofs.uga_after.Tie as tie
 
 abbrev Inv-loop : tie.InvT-loop
-Inv-loop kw samples channel₀ second₀ channel second = (second ≤ samples) × Represents One 5000 channel (jump (toZ w32 kw) second)
+Inv-loop kw samples channel₀ second₀ channel second = (second ≤ samples) × StandsFor One 5000 fresh channel (jump (toZ w32 kw) second)
 
 abbrev μ-loop : tie.MeasureT-loop
 μ-loop kw samples channel₀ second₀ channel second = samples - second
@@ -47,7 +48,7 @@ loop-again c =
     let l = c .before .before .before .loop in
     let s = c .before .setpoint-at in
     let kw = toZ w32 (ofZ w32 (a .args .kw)) in
-    (search needs, rw (add-one (l .second)) (rw (back32 {z = s .result} (s .ok), s .ensures) at (c .follow .ensures .1 One 5000 (jump kw (l .second)) (l .inv .1))))
+    (search needs, rw (add-one (l .second)) (rw (back32 {z = s .result} (s .ok), s .ensures) at (c .follow .ensures .1 One 5000 fresh (jump kw (l .second)) (l .inv .1))))
 
 uga-requires : tie.Need-uga-requires Inv-loop μ-loop
 uga-requires c κs = search needs
