@@ -5,11 +5,13 @@ import datetime
 import re
 
 from desk.illformed import Cause, cause_of_ill_form, encoding
+from desk.layout import PAST
 from desk.refusals import remedy
 from desk.visible import grouped, visible
 
 AWARDS_LIMIT = 2000000
 POWER_LIMIT = 2000000
+UNITS_PER_KW = 5400
 IDENTIFIER_LIMIT = 16
 
 
@@ -35,11 +37,63 @@ def _wrong_moment(line, before):
     if letter == b"C":
         return Cause(0, f"a contract {_so_far(before)}",
                      "move the C lines up, between the D line and the first S line")
+    if letter in (b"O", b"B"):
+        return _bounds_too_late(before) if letter == b"O" else _outside_the_block(before)
     return _end_too_early(before) if letter == b"E" else _sample_too_many(before)
 
 
+def _bounds_too_late(before):
+    if before.bounds is None:
+        where = "after a contract" if before.contracts and not before.samples else _so_far(before)
+        return Cause(0, f"an O line {where}: a carry block stands directly after the D line",
+                     "move the O line and its B lines up, behind the D line, or take them out")
+    if before.after:
+        return Cause(0, f"the input has a carry block of its own, and --after put that of {before.after} before it",
+                     "settle it without --after, or take its own O line and B lines out")
+    return Cause(0, f"a second O line, {_block_so_far(before)}",
+                 "leave one block, as it ends the sheet of the run before")
+
+
+def _outside_the_block(before):
+    if before.bounds is None:
+        return Cause(0, "a B line, and no O line directly after the D line",
+                     "put the O line of the sheet that the block comes from between the D line and the B lines")
+    return Cause(0, f"a B line after the carry block, which has its {before.past_wanted()} B lines",
+                 "take the line out")
+
+
+def _block_length(line, before):
+    wanted, interval = before.past_wanted(), before.header[2].decode()
+    if line.text[:1] == b"B":
+        return Cause(0, f"the carry block has its {wanted} B lines, as many as an interval of {interval} s wants",
+                     "take out what is there twice, or give the block of a run with this interval")
+    other = next((seconds for seconds, past in PAST.items() if past == before.past), None)
+    guess = f"; so many has one at an interval of {other} s" if other else ""
+    return Cause(0, f"the carry block has {before.past} of {wanted} B lines where this line comes{guess}", None)
+
+
+def _block_value(line, before):
+    letter, *fields = line.text.split(b"\t")
+    values = [int(field) for field in fields]
+    limit = POWER_LIMIT * (UNITS_PER_KW if letter == b"O" else 1)
+    place = next((place for place, value in enumerate(values, 1) if abs(value) > limit), None)
+    if place:
+        return Cause(place, None, None)
+    oga, uga = map(grouped, before.bounds)
+    units = values[0] * UNITS_PER_KW
+    return Cause(1, f"the newest setpoint, {grouped(values[0])} kW, is {grouped(units)} units, and the O line has UGA "
+                 f"{uga} and OGA {oga}: it is not between them", None)
+
+
+def _block_so_far(before):
+    """where the carry block stands, in words"""
+    return f"after {before.past} of {before.past_wanted()} B lines of the carry block"
+
+
 def _so_far(before):
-    """where the samples stand, in words"""
+    """where the samples stand, in words, or the carry block where it lacks some"""
+    if before.bounds and before.past < before.past_wanted():
+        return _block_so_far(before)
     if before.samples == 0:
         return "before the first sample"
     each = before.samples_of_quarter()
@@ -155,4 +209,4 @@ def _no_last_line(line, before):
 
 
 CAUSES = {1: _wrong_moment, 4: _date, 6: _too_many_contracts, 7: _identifier, 8: _taken, 10: _awards, 12: _price,
-          13: _power, 15: _no_end}
+          13: _power, 15: _no_end, 17: _block_length, 18: _block_value}

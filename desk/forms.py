@@ -5,6 +5,9 @@ from desk.visible import visible
 
 WHOLE = "write a whole number without decimals or separators: 50.00 EUR per MWh are 5000 cent"
 
+# A number is 0, or an optional minus and 1 to 9 digits without a leading zero; a bound of the carry block has up to 11.
+WRITTEN = {"number": "(?:0|-?[1-9][0-9]{0,8})", "bound": "(?:0|-?[1-9][0-9]{0,10})"}
+
 
 def faulty(form, data):
     """the cause in a field of a form, or None where the form is good"""
@@ -12,14 +15,24 @@ def faulty(form, data):
 
 
 def number(data):
-    """a number is 0, or an optional minus and 1 to 9 digits without a leading zero"""
-    if re.fullmatch(rb"0|-?[1-9][0-9]{0,8}", data):
-        return None
+    """a number"""
     text = data.decode("utf-8", "surrogateescape")
+    if re.fullmatch(WRITTEN["number"], text):
+        return None
     for form, cause, mend in NUMBERS:
         if re.fullmatch(form, text):
             return cause, mend
     return "this is no whole number", "write digits alone, with a minus before them where it is negative"
+
+
+def bound(data):
+    """a bound of the carry block"""
+    text = data.decode("utf-8", "surrogateescape")
+    if re.fullmatch(WRITTEN["bound"], text):
+        return None
+    if re.fullmatch("-?[0-9]{12,}", text):
+        return "more than 11 digits", "copy the O line anew from the sheet that it comes from"
+    return number(data)
 
 
 # The first form that fits gives the cause.
@@ -81,4 +94,4 @@ def _any(_data):
     """an identifier has no form: what is wrong with one is another refusal"""
 
 
-FORMS = {"number": number, "lot": lot, "date": date, "direction": direction, "identifier": _any}
+FORMS = {"number": number, "bound": bound, "lot": lot, "date": date, "direction": direction, "identifier": _any}

@@ -91,7 +91,7 @@ def _letter(line):
         return Cause(0, f"{first.decode()} begins a line of a sheet, not of an input",
                      "give the input that the sheet was made from")
     return Cause(0, f"{visible(first[:16])} begins no line",
-                 "begin the line with D, C, S or E and a tab; after E comes the line end")
+                 "begin the line with D, O, B, C, S or E and a tab; after E comes the line end")
 
 
 def _count(line):

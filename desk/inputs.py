@@ -9,7 +9,7 @@ from desk.streams import CLOSED, STANDARD_INPUT
 from desk.visible import visible
 
 BLOCK = 1 << 16
-# Header and contracts stand within this many first bytes of any input that is not refused among them.
+# Header, carry block and contracts stand within this many first bytes of any input that is not refused among them.
 HEAD = 1 << 16
 # The last bytes that are kept. The line that ends a run is among them: the program has read at most one block (64 KiB)
 # past it, as much again may wait in the pipe, and one block more was read here.
@@ -55,6 +55,9 @@ def called(path):
 
 class Input:
     """An open input."""
+
+    # the sheet that it goes on from, by its name
+    after = None
 
     def __init__(self, path):
         self.name = called(path)
@@ -115,6 +118,13 @@ class Input:
         else:
             self.begun, self.begun_length = (self.begun + rest)[:SHOWN], self.begun_length + len(rest)
         del self.window[:count]
+
+    def place_of(self, number):
+        """in which file a line that the program counted stands, and where there"""
+        return self.name, number
+
+    def counted(self, _number):
+        """how a line came to its number, where that has to be said"""
 
     def line(self, number):
         """the line of a number, or None where it is not kept any more or was not reached"""

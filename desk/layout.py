@@ -1,18 +1,24 @@
 """The form of an input in names: the kinds of lines, their fields, and what stands before a refused line."""
 import collections
 
-# a field's name in messages, and what form it has: date, number, lot, direction or identifier
+# a field's name in messages, and what form it has: date, number, bound, lot, direction or identifier
 Field = collections.namedtuple("Field", "name form")
 Kind = collections.namedtuple("Kind", "name fields")
 
 KINDS = {
     b"D": Kind("header", (Field("date", "date"), Field("interval in seconds", "number"), Field("lot in kW", "lot"),
                           Field("number of quarter hours", "number"))),
+    b"O": Kind("bounds of the carry block", (Field("OGA in units", "bound"), Field("UGA in units", "bound"))),
+    b"B": Kind("past setpoint of the carry block", (Field("setpoint in kW", "number"),)),
     b"C": Kind("contract", (Field("direction", "direction"), Field("identifier", "identifier"),
                             Field("award in kW", "number"), Field("price in cent per MWh", "number"))),
     b"S": Kind("sample", (Field("setpoint in kW", "number"), Field("actual in kW", "number"))),
     b"E": Kind("end", ()),
 }
+
+# the kinds of lines of a carry block, and how many B lines it has, by the interval in seconds
+BLOCK = (b"O", b"B")
+PAST = {1: 301, 3: 100, 4: 75}
 
 Contract = collections.namedtuple("Contract", "line direction identifier award price")
 
@@ -23,19 +29,28 @@ def pattern(letter):
 
 
 class Before:
-    """What stands before a refused line. All of it was accepted: a header, contracts, and after them samples alone."""
+    """What stands before a refused line. All of it was accepted: a header, perhaps a carry block, contracts, and after
+    them samples alone."""
 
     def __init__(self, source, line_number):
         lines = source.head_lines()[:line_number - 1]
         fields = [line.split(b"\t") for line in lines]
         self.header = fields[0] if fields else None
-        self.contracts = [Contract(number, *field[1:3], int(field[3]), int(field[4]))
+        # OGA and UGA of the carry block, how many setpoints follow them, and the sheet that --after took it from
+        self.bounds = next((tuple(map(int, field[1:])) for field in fields if field[0] == b"O"), None)
+        self.past = sum(field[0] == b"B" for field in fields)
+        self.after = source.after
+        self.contracts = [Contract(source.place_of(number)[1], *field[1:3], int(field[3]), int(field[4]))
                           for number, field in enumerate(fields, 1) if field[0] == b"C"]
         self.samples = line_number - 1 - sum(field[0] != b"S" for field in fields)
 
     def of_direction(self, direction):
         """the contracts of a direction"""
         return [contract for contract in self.contracts if contract.direction == direction]
+
+    def past_wanted(self):
+        """how many setpoints a carry block has at the header's interval"""
+        return PAST[int(self.header[2])]
 
     def quarters(self):
         """how many quarter hours the header asks for"""

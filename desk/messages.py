@@ -7,7 +7,8 @@ from desk.visible import shortened, visible
 
 def refusal(source, refused):
     """the message for a refusal of an input: where, the line, the field, the ground, the cause, what to do"""
-    parts = [f"{source.name}, line {refused.line}: refusal {refused.number}: {ground(refused.number)}"]
+    name, number = source.place_of(refused.line)
+    parts = [f"{name}, line {number}: refusal {refused.number}: {ground(refused.number)}", source.counted(refused.line)]
     line = source.line(refused.line)
     if line:
         cause = cause_of(refused.number, line, Before(source, refused.line))

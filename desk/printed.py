@@ -5,9 +5,10 @@ import collections
 import re
 
 from desk.endings import Trouble
+from desk.forms import WRITTEN
 from desk.illformed import Cause, encoding, line_ends
 from desk.inputs import SHOWN, Line
-from desk.layout import KINDS
+from desk.layout import BLOCK, KINDS, PAST
 from desk.messages import shown
 from desk.programs import Refused
 from desk.sheets import DIRECTIONS, FORMAT, quarter_hours, row_of
@@ -23,11 +24,14 @@ FORMS = {
     "K": rf"{NUMBER}\t[PN]\t[A-Za-z0-9-]{{1,16}}(?:\t{NUMBER}){{7}}\t{SIGNED}\t{NUMBER}",
     "T": rf"{NUMBER}\t{SIGNED}\t{NUMBER}",
     "R": rf"{NUMBER}\t{NUMBER}",
+    # the lines of the carry block have the form in which an input has them
+    **{letter.decode(): r"\t".join(WRITTEN[field.form] for field in KINDS[letter].fields) for letter in BLOCK},
 }
 # The format number has the same place in every format, and the rest of the line may have another form.
 FORMAT_NUMBER = re.compile(rb"V\t([0-9]{1,4})(?:\t|$)")
 
 AGAIN = "take the sheet as it was printed, or settle its input again"
+ENDS = "a sheet ends with its carry block, or in a line R where its input was refused"
 
 # A line Q and the lines K below it, as rows, with the number of the line Q in the input.
 Part = collections.namedtuple("Part", "line pool lines")
@@ -44,13 +48,13 @@ class NoSheet(Trouble):
 
 def read(source):
     """each sheet of an input, as soon as it is whole"""
-    sheet = None
+    above = sheet = None
     for line in _lines(source):
-        sheet = sheet or Sheet(source, line.number)
+        sheet = sheet or Sheet(source, line.number, above)
         sheet.take(line)
-        if sheet.ended:
+        if sheet.ended():
             yield sheet
-            sheet = None
+            above, sheet = sheet.block and sheet.block_so_far(), None
     if sheet:
         raise sheet.cut_off(sheet.last)
 
@@ -72,14 +76,18 @@ def _lines(source):
 class Sheet:
     """A sheet, line by line as it was printed."""
 
-    def __init__(self, source, first):
+    def __init__(self, source, first, above):
         self.source = source
         self.first = first
+        # what is said of the carry block above it, where another sheet ends in one there
+        self.above = above
         self.last = None
         self.day = None
+        self.interval = None
         self.parts = []
+        # the lines of the carry block, from T on
+        self.block = None
         self.refused = None
-        self.ended = False
 
     def name(self):
         """what it is called: the name of its input, and where it begins there if others come before it"""
@@ -92,24 +100,36 @@ class Sheet:
     def take(self, line):
         """one line more"""
         kind, *fields = self._fields(line)
-        fault = PLACES[kind](self, fields)
+        fault = PLACES[kind](self, fields) if self.block is None else _rest_fault(self, kind)
         if fault:
             raise NoSheet(self.source, line, fault)
         self.last = line
         if kind == "V":
-            self.day = fields[1]
+            self.day, self.interval = fields[1], int(fields[2])
         elif kind == "Q":
             self.parts.append(Part(line.number, row_of(kind, fields), []))
         elif kind == "K":
             self.parts[-1].lines.append(row_of(kind, fields))
         elif kind == "R":
             self.refused = Refused(*map(int, fields))
-        self.ended = kind in ("T", "R")
+        elif kind == "T":
+            self.block = []
+        else:
+            self.block.append(line)
+
+    def ended(self):
+        """whether it is whole"""
+        return bool(self.refused or self.block and len(self.block) > PAST[self.interval])
+
+    def block_so_far(self):
+        """how much of the carry block is there, in words"""
+        setpoints = f"{len(self.block) - 1} of {PAST[self.interval]} lines B" if self.block else "no line O"
+        return f"the carry block has {setpoints}"
 
     def cut_off(self, line):
         """that the input ends in or after this line, and the sheet does not"""
         words = "the sheet is cut off after this line" if line.complete else "the sheet is cut off in this line"
-        cause = "a sheet ends in a line T, or in R where its input was refused"
+        cause = ENDS if self.block is None else self.block_so_far()
         return NoSheet(self.source, line, words, Cause(None, cause, AGAIN))
 
     def _fields(self, line):
@@ -132,15 +152,15 @@ def _cause_of_ill_form(line, last):
     """why a line is none of a sheet: one that follows another, or the first of an input or after a sheet"""
     if line.length == 0 and not line.complete:
         return Cause(None, "there is nothing in it", "look whether the right file was given")
-    if line.text.split(b"\t")[0] in KINDS and not last:
-        return Cause(None, "this is an input, and has no figures yet", "fireboxer settle FILE | fireboxer explain")
+    letter = line.text.split(b"\t")[0]
+    if letter in KINDS and letter not in BLOCK and not last:
+        return Cause(None, "this is an input, and has no figures yet", "settle it, and give its sheet")
     mend = AGAIN if last else "give a sheet as settle prints it, without --table and without --csv"
     return encoding(line) or line_ends(line) or Cause(None, None, mend)
 
 
 def _heading_fault(sheet, _fields):
-    begins = "another sheet begins here, and the one above has no end: a line T, or R where its input was refused"
-    return begins if sheet.day else None
+    return f"another sheet begins here, and the one above has no end: {ENDS}" if sheet.day else None
 
 
 def _pool_fault(sheet, fields):
@@ -174,7 +194,19 @@ def _half(sheet):
     return f"the line Q of quarter hour {sheet.quarters()}, N is missing" if len(sheet.parts) % 2 else None
 
 
+def _block_fault(sheet, _fields):
+    if sheet.day:
+        return "the carry block stands after T"
+    return f"a line too many: {sheet.above}" if sheet.above else NO_HEADING
+
+
+def _rest_fault(sheet, kind):
+    """what is wrong with a line of this kind after T, where the carry block alone stands: in words, or None"""
+    wanted = "B" if sheet.block else "O"
+    return None if kind == wanted else f"a line {wanted} comes next: {sheet.block_so_far()}"
+
+
 NO_HEADING = "a sheet begins with a line V"
-# What is wrong with the place of a line of this kind, after what the sheet has so far: in words, or None.
+# What is wrong with the place of a line of this kind, after what the sheet has so far and before T: in words, or None.
 PLACES = {"V": _heading_fault, "Q": _pool_fault, "K": _contract_fault, "T": _total_fault,
-          "R": lambda sheet, _fields: _half(sheet)}
+          "R": lambda sheet, _fields: _half(sheet), "O": _block_fault, "B": _block_fault}

@@ -8,8 +8,9 @@ Refusal = collections.namedtuple("Refusal", "number case ground remedy")
 REFUSALS = (
     Refusal(1, "WrongMoment",
             "wrong moment: a contract after the first sample, a second header, anything else before the header, "
-            "an end before the last sample, a sample after it",
-            "put the lines in order: one D line, the C lines, all the S lines of all the quarter hours, E"),
+            "an end before the last sample, a sample after it, a line of a carry block anywhere but after the header",
+            "put the lines in order: one D line, the carry block where there is one, the C lines, all the S lines of "
+            "all the quarter hours, E"),
     Refusal(2, "BadInterval",
             "interval not 1, 3 or 4 seconds",
             "write 1, 3 or 4 as the D line's interval"),
@@ -55,6 +56,14 @@ REFUSALS = (
     Refusal(16, "BufferTooShort",
             "(for programs that call the library) the lent buffer is shorter than the text",
             "lend a longer buffer"),
+    Refusal(17, "BadBlockLength",
+            "a B line too few or too many in the carry block",
+            "put the block in as it ends the sheet of the run before: an O line, and 301, 100 or 75 B lines at an "
+            "interval of 1, 3 or 4 seconds"),
+    Refusal(18, "BadBlockValue",
+            "OGA or UGA not -10,800,000,000 to 10,800,000,000 units, a past setpoint not -2,000,000 to 2,000,000 kW, "
+            "or the newest not between UGA and OGA",
+            "copy the block anew from the sheet of the run before"),
 )
 
 BY_NUMBER = {refusal.number: refusal for refusal in REFUSALS}

@@ -5,7 +5,7 @@ from desk.endings import Trouble
 from desk.visible import grouped
 
 # the format number of the sheets that are read here: that of the V line
-FORMAT = "2"
+FORMAT = "3"
 
 # a column of the lines Q and K: its short name on the sheet, its name in words, its unit
 Column = collections.namedtuple("Column", "short name unit")
@@ -46,6 +46,7 @@ def read(text):
             rows.append(row_of(kind, fields))
         elif kind == "T":
             ending = tuple(map(int, fields))
+        # the lines O and B of the carry block are no figures of the settlement
     return Sheet(*heading, rows, *ending)
 
 

@@ -103,7 +103,7 @@ while read -r times number; do
     reached[$number]=$times
 done < <(sort "$work/refusals" | uniq -c)
 echo "$accepted: ${reached[0]:-0}"
-for number in {1..16}; do
+for number in {1..18}; do
     echo "refusal $number: ${reached[$number]:-0}"
 done
 if ((differ > 0)); then

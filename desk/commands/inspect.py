@@ -36,12 +36,21 @@ def _described(source, sheet):
     yield f"  day        {sheet.day}\n"
     yield f"  interval   {sheet.interval} s, {before.samples_of_quarter()} samples a quarter hour\n"
     yield f"  lot        {grouped(sheet.lot)} kW ({where})\n"
+    yield f"  start      {_start(before)}\n"
     for direction in ("P", "N"):
         yield f"  contracts  {direction}: {_contracts(before.of_direction(direction.encode()))}\n"
     yield f"  samples    {grouped(before.samples)}\n"
     yield f"  covered    {grouped(sheet.quarters * 15)} minutes, {sheets.quarter_hours(sheet.quarters)}\n"
     more = ", and more follows that is not read" if source.goes_on_after_end() else ""
     yield f"  end        line {grouped(end)}{more}\n"
+
+
+def _start(before):
+    """what lies before the first sample"""
+    if before.bounds is None:
+        return "no carry block: as if the first setpoint had always stood"
+    oga, uga = map(grouped, before.bounds)
+    return f"a carry block on lines 2 to {2 + before.past}: OGA {oga} and UGA {uga} units"
 
 
 def _contracts(contracts):

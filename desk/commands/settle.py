@@ -19,6 +19,8 @@ def arguments(parser):
     parser.add_argument("-o", "--output", metavar="PLACE",
                         help="write to this file, or into this folder a file for each input; "
                         "a file is written whole or, where the input is refused, not at all")
+    parser.add_argument("--after", metavar="SHEET",
+                        help="go on from the run before: its sheet's carry block is put behind the header; one input")
     parser.add_argument("--join", action="store_true",
                         help="several inputs: their sheets one after the other, in one output")
     form = parser.add_mutually_exclusive_group()
@@ -33,12 +35,26 @@ def arguments(parser):
 def run(options):
     """settles each input; the exit status is that of the worst of them"""
     sign = separator(options, options.form == "csv")
-    plan = _plan(options, input_paths(options.files))
+    if options.after and len(options.files) > 1:
+        raise Trouble("--after goes with one input: settle one day after the other")
+    sheets_before = [options.after] if options.after else []
+    looked_at = input_paths((options.files or ["-"]) + sheets_before)
+    plan = _plan(options, looked_at[:len(looked_at) - len(sheets_before)], sheets_before)
+    before = _before(options.after)
     ensure_built("settle")
-    return max(_settle_to(place, inputs, options.form, sign) for place, inputs in plan)
+    return max(_settle_to(place, inputs, options.form, sign, before) for place, inputs in plan)
 
 
-def _plan(options, paths):
+def _before(sheet):
+    """the sheet of the run before, where one is given"""
+    if sheet is None:
+        return None
+    # imported here, since a run that goes on from no other needs none of it
+    from desk import carry
+    return carry.read(sheet)
+
+
+def _plan(options, paths, sheets_before):
     """which inputs go to which output: (output, inputs), the output None for standard output"""
     place = options.output
     if place is not None and (os.path.isdir(place) or place.endswith("/")):
@@ -48,7 +64,7 @@ def _plan(options, paths):
     else:
         raise Trouble("several inputs: give -o FOLDER for a sheet each, or --join for one after the other")
     for output, _ in plan:
-        if output not in (None, "-") and any(is_file(path, output) for path in paths):
+        if output not in (None, "-") and any(is_file(path, output) for path in paths + sheets_before):
             raise Trouble(f"{called(output)} is an input, and would be written over")
     return plan
 
@@ -69,13 +85,13 @@ def _plan_for_folder(options, paths):
     return list(plan.items())
 
 
-def _settle_to(place, paths, form, sign):
-    """settles inputs to one output, in a form, with a sign between the cells of rows"""
+def _settle_to(place, paths, form, sign, before):
+    """settles inputs to one output, in a form, with a sign between the cells of rows, after the sheet before"""
     status = ACCEPTED
     heading = sheets.csv_header(sign) if form == "csv" else ""
     with opened(place) as output:
         for path in paths:
-            sheet = _settle(path, output.write if form == "sheet" else None)
+            sheet = _settle(path, before, output.write if form == "sheet" else None)
             if sheet is None:
                 status = REFUSED
             elif form == "table":
@@ -90,13 +106,21 @@ def _settle_to(place, paths, form, sign):
     return status
 
 
-def _settle(path, take):
+def _settle(path, before, take):
     """Settles one input, and hands its sheet to `take` as it comes or, without one, answers it whole. None: refused."""
     sheet = bytearray()
-    with Input(path) as source:
+    with _input(path, before) as source:
         if not programs.accepted("settle", source, take or sheet.extend):
             return None
         if source.goes_on_after_end():
             say(f"{source.name}: more follows the end line (line {source.end_line_number()}), and is not read: "
                 "a further day needs an input of its own")
     return sheet
+
+
+def _input(path, before):
+    """an input, which goes on from the sheet before where there is one"""
+    if before is None:
+        return Input(path)
+    from desk.carry import Following
+    return Following(path, before)

@@ -1,13 +1,46 @@
 //! Library calls in any order: reads a script with one call a line and answers
-//! each as the library should. The lines of a script and of the answers are
-//! described in crates/calls/src/main.rt.
+//! each as the library should. All calls are on the one run at hand. The lines
+//! of a script, with | for the tab:
+//!
+//! ```text
+//! O|year|month|day|interval|lot|quarters        opens a run; what that gives, refused or not, takes the place of the run at hand
+//! A|OGA|UGA                                     begins the carry block of the run with these bounds, in units
+//! B|times|setpoint                              the same past setpoint of the block so often
+//! C|P or N|award|price|identifier               a contract
+//! S|times|setpoint|actual                       the same sample so often
+//! K                                             takes the quarter hour
+//! E                                             ends
+//! H                                             asks for the heading and the contract lists
+//! V|B or T|bytes|year|month|day|interval|lot    prints a head
+//! Q|B or T|bytes|quarter                        prints the sheets of the last taking
+//! T|B or T|bytes|quarters|fees|penalties        prints a total
+//! P|B or T|bytes                                prints the carry block that the run leaves behind, its O and B lines
+//! R|B or T|bytes|line|refusal                   prints a refusal
+//! ```
+//!
+//! Numbers are those of their types: of 64 bits OGA, UGA, fees and penalties,
+//! of 16 `times`, of 32 setpoint, actual, award, price, interval, lot and
+//! quarters of an opening. Refusals go from 0 to 18.
+//!
+//! A printing call is lent so many bytes (B), or so many more or fewer than its
+//! text has (T), of 16,384 at most. P on a run that can't be ended yet, or on
+//! none, is refused with 1, before 16; it has no text then, and T counts from 0.
+//!
+//! An answer is a line with the number of the script's line, that of the
+//! refusal (0 where there is none) and counts: of B and S how many were
+//! accepted (the refusal is that of the last), of H the contracts in each
+//! direction, of an accepted printing call the length of its text. After it
+//! stand, whether refused or not, the sheets (K), the total (E), the head (H),
+//! and the whole buffer that was lent, with a line end after it.
 
 use std::io;
 
 use crate::amounts::Money;
 use crate::channel::Interval;
 use crate::date::Date;
-use crate::run::{Header, Heading, Offer, PerDirection, QuarterHour, Refusal, Run, Sample, Total};
+use crate::run::{
+    Header, Heading, Offer, PastBounds, PerDirection, QuarterHour, Refusal, Run, Sample, Total,
+};
 use crate::settle::MeritOrder;
 use crate::sheet;
 use crate::text;
@@ -16,7 +49,8 @@ use crate::text;
 const LARGEST_BUFFER: usize = 16_384;
 /// Fills a buffer before it is lent, so that a byte left alone can be told.
 const UNTOUCHED: u8 = b'.';
-const LAST_REFUSAL: u8 = Refusal::ShortBuffer as u8;
+/// The largest number that a refusal has.
+const LAST_REFUSAL: u8 = Refusal::BlockValue as u8;
 /// What stands in the place of a run that was not opened: it has no quarter
 /// hour, so that every call on it is at a wrong moment, and this heading.
 const NO_RUN: Heading = Heading {
@@ -32,6 +66,8 @@ const NO_RUN: Heading = Heading {
 #[derive(Clone, Copy, Debug)]
 enum Call<'a> {
     Open(Header),
+    PastBounds(PastBounds),
+    PastSetpoints(u16, i32),
     Contract(Offer<'a>),
     Samples(u16, Sample),
     Take,
@@ -47,6 +83,8 @@ enum Printing {
     /// The quarter hour taken last, under this number.
     QuarterHour(u8),
     Total(Total),
+    /// The block that the run leaves behind.
+    Carry,
     Refusal(u64, u8),
 }
 
@@ -95,6 +133,8 @@ impl Caller {
     fn make(&mut self, line: u64, call: Call<'_>) {
         match call {
             Call::Open(header) => self.open(line, header),
+            Call::PastBounds(bounds) => self.begin_block(line, bounds),
+            Call::PastSetpoints(times, setpoint) => self.add_past_setpoints(line, times, setpoint),
             Call::Contract(offer) => self.add_contract(line, offer),
             Call::Samples(times, sample) => self.add_samples(line, times, sample),
             Call::Take => self.take(line),
@@ -111,20 +151,39 @@ impl Caller {
         self.quarter = QuarterHour::default();
     }
 
+    fn begin_block(&mut self, line: u64, bounds: PastBounds) {
+        let begun = self.run().and_then(|run| run.begin_block(bounds));
+        self.answer(line, begun.as_ref().err(), &[]);
+    }
+
+    fn add_past_setpoints(&mut self, line: u64, times: u16, setpoint: i32) {
+        self.repeat(line, times, |run| run.add_past_setpoint(setpoint));
+    }
+
     fn add_contract(&mut self, line: u64, offer: Offer<'_>) {
         let added = self.run().and_then(|run| run.add_contract(offer));
         self.answer(line, added.as_ref().err(), &[]);
     }
 
-    /// Answers how many samples were accepted; the refusal is that of the last.
     fn add_samples(&mut self, line: u64, times: u16, sample: Sample) {
-        let mut added = Ok(());
+        self.repeat(line, times, |run| run.add_sample(sample));
+    }
+
+    /// Makes a call so often. Answers how often it was accepted; the refusal is
+    /// that of the last.
+    fn repeat(
+        &mut self,
+        line: u64,
+        times: u16,
+        mut call: impl FnMut(&mut Run) -> Result<(), Refusal>,
+    ) {
+        let mut answer = Ok(());
         let mut accepted = 0;
         for _ in 0..times {
-            added = self.run().and_then(|run| run.add_sample(sample));
-            accepted += usize::from(added.is_ok());
+            answer = self.run().and_then(&mut call);
+            accepted += usize::from(answer.is_ok());
         }
-        self.answer(line, added.as_ref().err(), &[accepted]);
+        self.answer(line, answer.as_ref().err(), &[accepted]);
     }
 
     /// A refusal has no figures, and the number of the quarter hour that is
@@ -160,11 +219,13 @@ impl Caller {
         sheet::written(sheet::print_heading(&mut self.answers, &heading));
     }
 
-    /// Answers the length of the text, and shows the whole buffer.
+    /// Answers the length of the text, and shows the whole buffer, also where
+    /// there is nothing to print.
     fn print(&mut self, line: u64, printing: Printing, room: Room) {
         let text = self.text(printing);
-        let mut buffer = vec![UNTOUCHED; room.bytes(&text)];
-        match print_into(&mut buffer, &text) {
+        let wanted = text.as_deref().unwrap_or("");
+        let mut buffer = vec![UNTOUCHED; room.bytes(wanted)];
+        match text.and_then(|text| print_into(&mut buffer, &text)) {
             Ok(length) => self.answer(line, None, &[length]),
             Err(refusal) => self.answer(line, Some(&refusal), &[]),
         }
@@ -196,7 +257,7 @@ impl Caller {
         self.answers.push('\n');
     }
 
-    fn text(&self, printing: Printing) -> String {
+    fn text(&self, printing: Printing) -> Result<String, Refusal> {
         let mut text = String::new();
         sheet::written(match printing {
             Printing::Heading(heading) => sheet::print_heading(&mut text, &heading),
@@ -208,9 +269,13 @@ impl Caller {
                 sheet::print_quarter_hour(&mut text, &self.lists(), &quarter)
             }
             Printing::Total(total) => sheet::print_total(&mut text, &total),
+            Printing::Carry => {
+                let run = self.run.as_ref().ok_or(Refusal::WrongMoment)?;
+                sheet::print_carry(&mut text, &run.carry()?)
+            }
             Printing::Refusal(line, number) => sheet::print_refusal(&mut text, line, number),
         });
-        text
+        Ok(text)
     }
 }
 
@@ -226,24 +291,20 @@ fn print_into(buffer: &mut [u8], text: &str) -> Result<usize, Refusal> {
 fn read_call(line: &[u8]) -> Option<Call<'_>> {
     let mut fields = line.split(|&byte| byte == b'\t');
     match fields.next()? {
-        b"O" => {
-            let [year, month, day, interval, lot, quarter_hours] = text::exactly(fields)?;
-            Some(Call::Open(Header {
-                date: read_date(year, month, day)?,
-                interval: read_number(interval)?,
-                lot: read_number(lot)?,
-                quarter_hours: read_number(quarter_hours)?,
+        b"O" => read_opening(fields).map(Call::Open),
+        b"A" => {
+            let [oga, uga] = text::exactly(fields)?;
+            Some(Call::PastBounds(PastBounds {
+                oga: read_number(oga)?,
+                uga: read_number(uga)?,
             }))
         }
-        b"C" => {
-            let [direction, award, price, identifier] = text::exactly(fields)?;
-            Some(Call::Contract(Offer {
-                direction: text::read_direction(direction)?,
-                identifier,
-                award: read_number(award)?,
-                price: read_number(price)?,
-            }))
+        b"B" => {
+            let [times, setpoint] = text::exactly(fields)?;
+            let setpoint = read_number(setpoint)?;
+            Some(Call::PastSetpoints(read_number(times)?, setpoint))
         }
+        b"C" => read_contract(fields).map(Call::Contract),
         b"S" => {
             let [times, setpoint, actual] = text::exactly(fields)?;
             let sample = Sample {
@@ -260,6 +321,26 @@ fn read_call(line: &[u8]) -> Option<Call<'_>> {
             Some(Call::Print(read_printing(kind, fields)?, room))
         }
     }
+}
+
+fn read_opening<'a>(fields: impl Iterator<Item = &'a [u8]>) -> Option<Header> {
+    let [year, month, day, interval, lot, quarter_hours] = text::exactly(fields)?;
+    Some(Header {
+        date: read_date(year, month, day)?,
+        interval: read_number(interval)?,
+        lot: read_number(lot)?,
+        quarter_hours: read_number(quarter_hours)?,
+    })
+}
+
+fn read_contract<'a>(fields: impl Iterator<Item = &'a [u8]>) -> Option<Offer<'a>> {
+    let [direction, award, price, identifier] = text::exactly(fields)?;
+    Some(Offer {
+        direction: text::read_direction(direction)?,
+        identifier,
+        award: read_number(award)?,
+        price: read_number(price)?,
+    })
 }
 
 /// What is printed, from the fields after the room.
@@ -285,6 +366,7 @@ fn read_printing<'a>(kind: &[u8], fields: impl Iterator<Item = &'a [u8]>) -> Opt
                 penalties: Money(read_number(penalties)?),
             }))
         }
+        b"P" => text::exactly(fields).map(|[]| Printing::Carry),
         b"R" => {
             let [line, number] = text::exactly(fields)?;
             let number = read_number(number).filter(|number| *number <= LAST_REFUSAL)?;
@@ -331,13 +413,14 @@ mod tests {
 
     #[test]
     fn without_a_run_every_call_is_at_a_wrong_moment() {
-        let calls = "C|P|1|1|A\nS|3|0|0\nK\nE\nH\n";
+        let calls = "A|0|0\nB|2|0\nC|P|1|1|A\nS|3|0|0\nK\nE\nP|B|3\nH\n";
         let refused = |first: u32| {
-            let numbers: Vec<String> = (first..).take(5).map(|line| line.to_string()).collect();
-            let [contract, samples, take, end, heading] = numbers.try_into().unwrap();
+            let numbers: Vec<String> = (first..).take(8).map(|line| line.to_string()).collect();
+            let [bounds, past, contract, samples, take, end, carry, heading] =
+                numbers.try_into().unwrap();
             format!(
-                "{contract}|1\n{samples}|1|0\n{take}|1\n{NOTHING}{end}|1\nT|0|0|0\n\
-                 {heading}|0|0|0\nV|2|2000-01-01|1|1\n"
+                "{bounds}|1\n{past}|1|0\n{contract}|1\n{samples}|1|0\n{take}|1\n{NOTHING}{end}|1\n\
+                 T|0|0|0\n{carry}|1\n...\n{heading}|0|0|0\nV|3|2000-01-01|1|1\n"
             )
         };
         assert_eq!(answered(calls), refused(1));
@@ -350,7 +433,7 @@ mod tests {
     fn an_opening_begins_anew() {
         let script = format!("{OPEN}C|N|1|1|A\nH\nO|2018|3|1|1|1|100\nH\n");
         let answers =
-            "1|0\n2|0\n3|0|0|1\nV|2|2017-02-20|4|5000\n4|0\n5|0|0|0\nV|2|2018-03-01|1|1\n";
+            "1|0\n2|0\n3|0|0|1\nV|3|2017-02-20|4|5000\n4|0\n5|0|0|0\nV|3|2018-03-01|1|1\n";
         assert_eq!(answered(&script), answers);
     }
 
@@ -359,6 +442,50 @@ mod tests {
         let script = format!("{OPEN}S|0|0|0\nS|200|0|0\nS|2|2000001|0\nS|26|0|0\nS|1|2000001|0\n");
         let answers = "1|0\n2|0|0\n3|0|200\n4|13|0\n5|1|25\n6|1|0\n";
         assert_eq!(answered(&script), answers);
+    }
+
+    #[test]
+    fn a_block_is_given_by_calls_of_its_own() {
+        let script = format!(
+            "{OPEN}B|2|0\nA|10800000001|0\nA|-9223372036854775808|0\nA|54000000|0\nA|0|0\n\
+             B|0|0\nB|70|3\nB|1|2000001\nC|P|1|1|A_\nC|P|1|1|A\nS|2|0|2000001\nS|2|0|0\nK\n\
+             B|10|10001\nB|3|10000\nB|1|0\nA|0|0\nC|P|1|1|A\nB|1|0\nS|1|0|0\n"
+        );
+        let answers = format!(
+            "1|0\n2|1|0\n3|18\n4|18\n5|0\n6|1\n7|0|0\n8|0|70\n9|18|0\n10|7\n11|17\n12|13|0\n\
+             13|17|0\n14|1\n{NOTHING}15|18|4\n16|17|1\n17|17|0\n18|1\n19|0\n20|1|0\n21|0|1\n"
+        );
+        assert_eq!(answered(&script), answers);
+    }
+
+    #[test]
+    fn the_block_of_a_run_that_can_be_ended_is_printed() {
+        let setpoints = "B|10000\n".repeat(74);
+        let block = format!("O|54000000|-3456000\n{setpoints}B|-640\n");
+        let length = block.len();
+        let script = format!(
+            "{OPEN}P|T|2\nS|224|10000|0\nP|B|1\nS|1|-640|0\nP|T|0\nK\nP|T|0\nP|T|1\nP|T|-1\nP|B|0\n"
+        );
+        let answered = answered(&script);
+        let (before, after) = answered.split_once("7|0\n").unwrap();
+        assert_eq!(before, "1|0\n2|1\n..\n3|0|224\n4|1\n.\n5|0|1\n6|1\n\n");
+        let after = after.split_once("8|0").unwrap().1;
+        let short = ".".repeat(length - 1);
+        let printed =
+            format!("|{length}\n{block}\n9|0|{length}\n{block}.\n10|16\n{short}\n11|16\n\n");
+        assert_eq!(after, printed);
+    }
+
+    /// A block that one run printed is taken by the next.
+    #[test]
+    fn a_printed_block_is_given_by_calls() {
+        let first = answered(&format!("{OPEN}S|225|7|0\nK\nP|T|0\n"));
+        let bounds = first.lines().find(|line| line.starts_with("O|")).unwrap();
+        let bounds = bounds.replace('O', "A");
+        let second = answered(&format!("{OPEN}{bounds}\nB|75|7\nS|225|7|0\nK\nP|T|0\n"));
+        assert!(second.starts_with("1|0\n2|0\n3|0|75\n4|0|225\n5|0\n"));
+        let block = |answers: &str| answers[answers.find("O|").unwrap()..].to_string();
+        assert_eq!(block(&first), block(&second));
     }
 
     #[test]
@@ -400,7 +527,7 @@ Q|0|N|0|0|0|0|0|0|0|0|0|0|0
     fn any_number_is_printed() {
         let script =
             "V|T|0|65535|255|0|3|4294967295\nT|T|0|255|-1|-9223372036854775808\nR|T|0|0|0\n";
-        let answers = "1|0|28\nV|2|5535-55-00|3|4294967295\n\n2|0|30\nT|255|-1|-9223372036854775808\n\n3|0|6\nR|0|0\n\n";
+        let answers = "1|0|28\nV|3|5535-55-00|3|4294967295\n\n2|0|30\nT|255|-1|-9223372036854775808\n\n3|0|6\nR|0|0\n\n";
         assert_eq!(answered(script), answers);
     }
 
@@ -417,7 +544,14 @@ Q|0|N|0|0|0|0|0|0|0|0|0|0|0
             "S|65536|0|0",
             "V|B|0|2017|2|20|2|1",
             "Q|X|0|0",
-            "R|B|0|1|17",
+            "R|B|0|1|19",
+            "A|0",
+            "A|0|9223372036854775808",
+            "B|0",
+            "B|65536|0",
+            "B|1|2147483648",
+            "P|B",
+            "P|B|0|0",
         ] {
             let script = format!("{OPEN}{line}\n").replace('|', "\t");
             assert!(answers(script.as_bytes()).is_err(), "{line}");

@@ -57,6 +57,23 @@ impl Interval {
             Interval::Four => 8..=75,
         }
     }
+
+    /// How many setpoints before a sample its windows look at, so many a carry
+    /// block has.
+    pub fn past_setpoints(self) -> usize {
+        *self.spread_window().end()
+    }
+}
+
+/// What the channel has to know of the time before its first sample: a run
+/// leaves it behind, and the one that follows may begin with it.
+#[derive(Clone, Debug, PartialEq, Eq)]
+pub struct Carry {
+    /// The bounds at the last sample.
+    pub oga: Power,
+    pub uga: Power,
+    /// In kW, oldest first, as many as the windows look back at.
+    pub setpoints: Vec<i32>,
 }
 
 /// The bounds that hold at one sample, with the paper's names.
@@ -97,6 +114,26 @@ impl Channel {
         }
     }
 
+    /// Begins with the past that another run left behind. No setpoint has been
+    /// taken yet.
+    pub fn resume(&mut self, carry: Carry) {
+        debug_assert!(self.setpoints.is_empty());
+        debug_assert_eq!(carry.setpoints.len(), self.interval.past_setpoints());
+        self.setpoints = carry.setpoints;
+        self.oga = carry.oga;
+        self.uga = carry.uga;
+    }
+
+    /// What it leaves behind. A setpoint has been taken.
+    pub fn carry(&self) -> Carry {
+        let oldest = self.setpoints.len() - self.interval.past_setpoints();
+        Carry {
+            oga: self.oga,
+            uga: self.uga,
+            setpoints: self.setpoints[oldest..].to_vec(),
+        }
+    }
+
     /// Takes the next setpoint, in kW, and gives the bounds at that sample.
     pub fn follow(&mut self, setpoint: i32) -> Bounds {
         if self.setpoints.is_empty() {
@@ -111,12 +148,14 @@ impl Channel {
         with_tolerance(setpoint, self.oga, self.uga)
     }
 
-    /// What lies before the first sample is taken to be equal to it.
+    /// Where no past was carried, what lies before the first sample is taken
+    /// to be equal to it.
     fn start_at(&mut self, setpoint: i32) {
-        let lead_in = *self.interval.spread_window().end();
-        self.setpoints.resize(lead_in, setpoint);
-        self.oga = Power::from_kw(setpoint);
-        self.uga = Power::from_kw(setpoint);
+        self.resume(Carry {
+            oga: Power::from_kw(setpoint),
+            uga: Power::from_kw(setpoint),
+            setpoints: vec![setpoint; self.interval.past_setpoints()],
+        });
     }
 
     /// By how much a bound may move from one sample to the next: the demanded
@@ -254,6 +293,73 @@ mod tests {
         assert_eq!(seen(Interval::One), (31..=301).collect::<Vec<_>>());
         assert_eq!(seen(Interval::Three), (11..=100).collect::<Vec<_>>());
         assert_eq!(seen(Interval::Four), (8..=75).collect::<Vec<_>>());
+    }
+
+    const INTERVALS: [Interval; 3] = [Interval::One, Interval::Three, Interval::Four];
+
+    #[test]
+    fn the_past_has_as_many_setpoints_as_the_windows_reach_back() {
+        assert_eq!(INTERVALS.map(Interval::past_setpoints), [301, 100, 75]);
+    }
+
+    /// Setpoints that change often and far, the same for the same place.
+    fn restless(place: usize) -> i32 {
+        let steps = [0, 40_000, -3_000, 7, 2_000_000, -2_000_000, 12_000, -1];
+        steps[place / 13 * 5 % 8]
+            + (place * place % 17) as i32 * if place / 90 % 2 == 0 { 1 } else { -1 }
+    }
+
+    #[test]
+    fn a_carried_channel_goes_on_as_the_one_it_comes_from() {
+        for interval in INTERVALS {
+            for cut in [1, 2, 30, 75, 76, 100, 101, 301, 302, 900] {
+                let mut whole = Channel::new(interval, 3_000);
+                for place in 0..cut {
+                    whole.follow(restless(place).clamp(-2_000_000, 2_000_000));
+                }
+                let mut second = Channel::new(interval, 3_000);
+                second.resume(whole.carry());
+                for place in cut..cut + 1_000 {
+                    let setpoint = restless(place).clamp(-2_000_000, 2_000_000);
+                    assert_eq!(second.follow(setpoint), whole.follow(setpoint));
+                }
+                assert_eq!(second.carry(), whole.carry());
+            }
+        }
+    }
+
+    /// A past of zeros with one setpoint of 1,000 kW at an age, from 1 on.
+    fn past_with_spike(interval: Interval, age: usize, oga: i64, uga: i64) -> Carry {
+        let mut setpoints = vec![0; interval.past_setpoints()];
+        let place = setpoints.len() - age;
+        setpoints[place] = 1_000;
+        Carry {
+            oga: Power(oga),
+            uga: Power(uga),
+            setpoints,
+        }
+    }
+
+    #[test]
+    fn the_windows_look_back_into_the_carried_setpoints() {
+        for interval in INTERVALS {
+            let ages = 1..=interval.past_setpoints();
+            let first = |age, oga| {
+                let mut channel = Channel::new(interval, 1);
+                channel.resume(past_with_spike(interval, age, oga, 0));
+                let bounds = channel.follow(0);
+                (bounds.oga, channel.gradient())
+            };
+            let near = |age: &usize| first(*age, 0).0 == Power::from_kw(1_000);
+            let spread = |age: &usize| first(*age, 0).1 == Power(20 * interval.seconds() * 1_000);
+            let last_near = *interval.near_window().end();
+            assert!(ages.clone().filter(near).eq(1..=last_near));
+            assert!(ages.clone().filter(spread).eq(interval.spread_window()));
+            // The gradient is taken from the carried bound.
+            let oldest = interval.past_setpoints();
+            let gradient = 20 * interval.seconds() * 1_000;
+            assert_eq!(first(oldest, 9_000_000).0, Power(9_000_000 - gradient));
+        }
     }
 
     #[test]

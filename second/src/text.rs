@@ -2,12 +2,14 @@
 //! ill-formed one; whether its values are in range is for the run to say.
 
 use crate::date::Date;
-use crate::run::{Header, Offer, Sample};
+use crate::run::{Header, Offer, PastBounds, Sample};
 use crate::settle::Direction;
 
 /// The most bytes a line may have before its LF.
 const LONGEST_LINE: usize = 80;
 const MOST_DIGITS: usize = 9;
+/// Of the bounds of a carry block, which are in units.
+const MOST_DIGITS_OF_BOUND: usize = 11;
 /// The lot in kW that `-` stands for.
 const USUAL_LOT: i32 = 5_000;
 
@@ -15,6 +17,8 @@ const USUAL_LOT: i32 = 5_000;
 #[derive(Clone, Copy, Debug, PartialEq, Eq)]
 pub enum Line<'a> {
     Header(Header),
+    PastBounds(PastBounds),
+    PastSetpoint(i32),
     Contract(Offer<'a>),
     Sample(Sample),
     End,
@@ -39,24 +43,13 @@ pub fn read_line(line: &[u8]) -> Option<Line<'_>> {
     }
     let mut fields = line.split(|&byte| byte == b'\t');
     match fields.next()? {
-        b"D" => {
-            let [date, interval, lot, quarter_hours] = exactly(fields)?;
-            Some(Line::Header(Header {
-                date: read_date(date)?,
-                interval: read_number(interval)?,
-                lot: read_lot(lot)?,
-                quarter_hours: read_number(quarter_hours)?,
-            }))
+        b"D" => read_header(fields).map(Line::Header),
+        b"O" => read_bounds(fields).map(Line::PastBounds),
+        b"B" => {
+            let [setpoint] = exactly(fields)?;
+            read_number(setpoint).map(Line::PastSetpoint)
         }
-        b"C" => {
-            let [direction, identifier, award, price] = exactly(fields)?;
-            Some(Line::Contract(Offer {
-                direction: read_direction(direction)?,
-                identifier,
-                award: read_number(award)?,
-                price: read_number(price)?,
-            }))
-        }
+        b"C" => read_contract(fields).map(Line::Contract),
         b"S" => {
             let [setpoint, actual] = exactly(fields)?;
             Some(Line::Sample(Sample {
@@ -64,12 +57,37 @@ pub fn read_line(line: &[u8]) -> Option<Line<'_>> {
                 actual: read_number(actual)?,
             }))
         }
-        b"E" => {
-            let [] = exactly(fields)?;
-            Some(Line::End)
-        }
+        b"E" => exactly(fields).map(|[]| Line::End),
         _ => None,
     }
+}
+
+fn read_header<'a>(fields: impl Iterator<Item = &'a [u8]>) -> Option<Header> {
+    let [date, interval, lot, quarter_hours] = exactly(fields)?;
+    Some(Header {
+        date: read_date(date)?,
+        interval: read_number(interval)?,
+        lot: read_lot(lot)?,
+        quarter_hours: read_number(quarter_hours)?,
+    })
+}
+
+fn read_bounds<'a>(fields: impl Iterator<Item = &'a [u8]>) -> Option<PastBounds> {
+    let [oga, uga] = exactly(fields)?;
+    Some(PastBounds {
+        oga: read_long_number(oga, MOST_DIGITS_OF_BOUND)?,
+        uga: read_long_number(uga, MOST_DIGITS_OF_BOUND)?,
+    })
+}
+
+fn read_contract<'a>(fields: impl Iterator<Item = &'a [u8]>) -> Option<Offer<'a>> {
+    let [direction, identifier, award, price] = exactly(fields)?;
+    Some(Offer {
+        direction: read_direction(direction)?,
+        identifier,
+        award: read_number(award)?,
+        price: read_number(price)?,
+    })
 }
 
 /// The remaining fields of a line, if there are as many as there should be.
@@ -105,12 +123,17 @@ fn read_lot(field: &[u8]) -> Option<i32> {
 /// A number is `0`, or 1 to 9 digits without a leading zero and perhaps a
 /// minus before them. Nine digits fit an `i32`.
 fn read_number(field: &[u8]) -> Option<i32> {
+    read_long_number(field, MOST_DIGITS)?.try_into().ok()
+}
+
+/// A number of the same form with as many digits as its field may have.
+fn read_long_number(field: &[u8], most_digits: usize) -> Option<i64> {
     let (sign, digits) = match field {
         b"0" => return Some(0),
         [b'-', digits @ ..] => (-1, digits),
         digits => (1, digits),
     };
-    if digits.len() > MOST_DIGITS || *digits.first()? == b'0' {
+    if digits.len() > most_digits || *digits.first()? == b'0' {
         return None;
     }
     Some(sign * read_digits(digits)?)
@@ -129,12 +152,12 @@ fn read_date(field: &[u8]) -> Option<Date> {
     })
 }
 
-/// The value of at most nine digits, if they all are digits.
-fn read_digits(digits: &[u8]) -> Option<i32> {
+/// The value of at most eleven digits, if they all are digits.
+fn read_digits(digits: &[u8]) -> Option<i64> {
     digits.iter().try_fold(0, |value, digit| {
         digit
             .is_ascii_digit()
-            .then(|| value * 10 + i32::from(digit - b'0'))
+            .then(|| value * 10 + i64::from(digit - b'0'))
     })
 }
 
@@ -247,6 +270,14 @@ mod tests {
         };
         assert_eq!(read_line(b"S\t-3\t0"), Some(Line::Sample(sample)));
         assert_eq!(read_line(b"E"), Some(Line::End));
+        let bounds = |oga, uga| Some(Line::PastBounds(PastBounds { oga, uga }));
+        assert_eq!(
+            read_line(b"O\t54000000\t-10800000000"),
+            bounds(54_000_000, -10_800_000_000)
+        );
+        assert_eq!(read_line(b"O\t-99999999999\t0"), bounds(-99_999_999_999, 0));
+        assert_eq!(read_line(b"B\t-3"), Some(Line::PastSetpoint(-3)));
+        assert!(is_well_formed("B\t999999999"));
         // Out of range, but of the right form.
         assert!(is_well_formed("D\t1999-13-00\t-1\t0\t999999999"));
         assert!(is_well_formed("C\tP\t\t0\t0"));
@@ -291,6 +322,28 @@ mod tests {
             "C\tP\tA\t-\t1",
             "C\tP\tA\t1\t-",
             "C\tP\tA\t1\t1\t",
+            "O",
+            "O\t1",
+            "O\t1\t1\t1",
+            "O\t1\t",
+            "O\t\t1",
+            "O\t-\t1",
+            "O\t1\t-0",
+            "O\t1\t01",
+            "O\t100000000000\t1",
+            "O\t1\t-100000000000",
+            "O\t18446744073709551617\t1",
+            "O\t1\t1\r",
+            "o\t1\t1",
+            "B",
+            "B\t",
+            "B\t-",
+            "B\t1\t1",
+            "B\t1\t",
+            "B\t1000000000",
+            "B\t-1000000000",
+            "B\t007",
+            "b\t1",
         ] {
             assert!(!is_well_formed(line), "{line:?}");
         }

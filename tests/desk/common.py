@@ -20,10 +20,15 @@ EXAMPLE = ROOT / "examples" / "example.txt"
 EXAMPLE_SHEET = (ROOT / "examples" / "example.sheet").read_bytes()
 DAY = ROOT / "examples" / "day.txt"
 DAY_SHEET = (ROOT / "examples" / "day.sheet").read_bytes()
+# two days in a row, the second with the carry block of the first
+SUNDAY, MONDAY = (ROOT / "examples" / f"{name}.txt" for name in ("sunday", "monday"))
+SUNDAY_SHEET, MONDAY_SHEET = ((ROOT / "examples" / f"{name}.sheet").read_bytes() for name in ("sunday", "monday"))
 
 HEADER = "D\t2017-02-20\t4\t-\t1"
 CONTRACTS = ["C\tP\tA1\t6000\t5000", "C\tP\tA2\t6000\t8000"]
 SAMPLES = ["S\t10000\t9600"] * 225
+# a carry block for them
+BLOCK = ["O\t54000000\t54000000"] + ["B\t10000"] * 75
 
 
 def lines(*parts):

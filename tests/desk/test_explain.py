@@ -14,7 +14,8 @@ from desk.inputs import Input
 SHARPEST = ROOT / "examples" / "sharpest.sheet"
 SHARPEST_SHEET = SHARPEST.read_bytes()
 REST_SHEET = (ROOT / "examples" / "rest.sheet").read_bytes()
-HEAD, *MIDDLE, TOTAL = EXAMPLE_SHEET.splitlines(keepends=True)
+PARTS = EXAMPLE_SHEET.splitlines(keepends=True)
+HEAD, MIDDLE, TOTAL, (BOUNDS, *PAST) = PARTS[0], PARTS[1:5], PARTS[5], PARTS[6:]
 REFUSED_SHEET = b"".join([HEAD, *MIDDLE, b"R\t229\t14\n"])
 NOTHING = "in SO, IS and AK all lines and the rest add up to the pool's figures.\n"
 
@@ -189,7 +190,7 @@ class Inputs(Explained):
         text = self.explained(EXAMPLE_SHEET + REFUSED_SHEET + SHARPEST_SHEET + EXAMPLE_SHEET)
         self.assertEqual(text.returncode, REFUSED)
         names = re.findall(r"^(a\.sheet.*), 2017-02-20", text.stdout.decode(), re.M)
-        self.assertEqual(names, ["a.sheet", "a.sheet from line 7", "a.sheet from line 13", "a.sheet from line 279"])
+        self.assertEqual(names, ["a.sheet", "a.sheet from line 83", "a.sheet from line 89", "a.sheet from line 431"])
 
     def test_the_worst_counts_and_the_others_are_explained(self):
         self.file("good", EXAMPLE_SHEET)
@@ -248,6 +249,11 @@ class Refused(Explained):
                 self.assertIn(f"a.sheet, line {line}: the sheet ends in a refusal, with no quarter hour before it",
                               answer.stderr)
 
+    def test_no_block_follows(self):
+        answer = self.explained(REFUSED_SHEET + BOUNDS)
+        self.assertEqual(answer.returncode, TROUBLE)
+        self.assertIn("a.sheet, line 7: a sheet begins with a line V", answer.stderr)
+
     def test_a_number_that_is_not_listed(self):
         self.assertIn("refusal 99: a ground that the list of refusals lacks", self.explained(b"R\t1\t99\n").stderr)
 
@@ -280,7 +286,7 @@ class Changed(Explained):
             self.assertIn("1 difference above the bound", answer.stderr)
 
     def test_a_line_that_was_taken_out(self):
-        answer = self.explained(b"".join([HEAD, MIDDLE[0], *MIDDLE[3:], TOTAL]))
+        answer = self.explained(b"".join([HEAD, MIDDLE[0], *MIDDLE[3:], *PARTS[5:]]))
         self.assertEqual(answer.returncode, CHANGED)
         self.assertIn("3 differences above the bound", answer.stderr)
         self.assertIn("with no contract roundings make 0 kWh at most", answer.stderr)
@@ -296,26 +302,52 @@ class Changed(Explained):
 NO_SHEETS = {
     "empty": (b"", 1, ["no sheet begins here", "there is nothing in it"]),
     "an input": (EXAMPLE.read_bytes(), 1, ["no sheet begins here", "D<TAB>2017-02-20", "this is an input",
-                                           "fireboxer settle FILE | fireboxer explain"]),
+                                           "settle it, and give its sheet"]),
     "a word": (b"hello\n", 1, ["no sheet begins here", "as settle prints it"]),
     "a table": (b"Settlement of 2017-02-20: 1 quarter hour, interval 4 s, minimum lot 5,000 kW\n", 1, ["--table"]),
     "bytes": (bytes(range(256)) * 4, 1, ["no sheet begins here"]),
-    "a long line": (b"V\t2\t" + b"1" * 1000 + b"\n", 1, ["no sheet begins here", "(1,004 bytes)"]),
+    "a long line": (b"V\t3\t" + b"1" * 1000 + b"\n", 1, ["no sheet begins here", "(1,004 bytes)"]),
     "a long line below": (EXAMPLE_SHEET[:100] + b"1" * 10**6, 3, ["this is no line of a sheet"]),
-    "format 1": (changed(EXAMPLE_SHEET, b"V\t2", b"V\t1"), 1, ["the sheet has format 1: only format 2 is read here",
+    "format 2": (changed(EXAMPLE_SHEET, b"V\t3", b"V\t2"), 1, ["the sheet has format 2: only format 3 is read here",
                                                               "settle its input again"]),
-    "format 3": (changed(EXAMPLE_SHEET, b"V\t2", b"V\t3"), 1, ["the sheet has format 3: only format 2 is read here"]),
+    "format 4": (changed(EXAMPLE_SHEET, b"V\t3", b"V\t4"), 1, ["the sheet has format 4: only format 3 is read here"]),
+    "format 2, as it was": (changed(b"".join(PARTS[:6]), b"V\t3", b"V\t2"), 1, ["the sheet has format 2"]),
     "format 1, as it was": (b"V\t1\t2017-02-20\t4\t5000\nQ\t0\tP\t2500\t2489\t2444\t44\t56\t44\t0\t2488\n", 1,
                             ["the sheet has format 1"]),
     "lines of format 1": (changed(EXAMPLE_SHEET, b"2488\t0\t0\t0", b"2488"), 2, ["this is no line of a sheet"]),
     "Windows line ends": (EXAMPLE_SHEET.replace(b"\n", b"\r\n"), 1, ["no sheet begins here", "Windows line ends"]),
-    "Windows line end below": (EXAMPLE_SHEET[:-1] + b"\r\n", 6, ["this is no line of a sheet", "Windows line ends"]),
+    "Windows line end below": (EXAMPLE_SHEET[:-1] + b"\r\n", 82, ["this is no line of a sheet", "Windows line ends"]),
     "UTF-16": (EXAMPLE_SHEET.decode().encode("utf-16"), 1, ["UTF-16"]),
-    "cut off after a line": (b"".join([HEAD, *MIDDLE]), 5, ["is cut off after this line", "ends in a line T"]),
+    "cut off after a line": (b"".join([HEAD, *MIDDLE]), 5,
+                             ["is cut off after this line", "a sheet ends with its carry block, or in a line R"]),
     "cut off after V": (HEAD, 1, ["the sheet is cut off after this line"]),
     "cut off in a line": (EXAMPLE_SHEET[:100], 3, ["the sheet is cut off in this line", "line 3 (no line end)"]),
     "cut off in V": (HEAD[:12], 1, ["the sheet is cut off in this line"]),
-    "cut off before the last line end": (EXAMPLE_SHEET[:-1], 6, ["the sheet is cut off in this line"]),
+    "cut off before the last line end": (EXAMPLE_SHEET[:-1], 82, ["the sheet is cut off in this line",
+                                                                  "the carry block has 74 of 75 lines B"]),
+    "cut off after T": (b"".join(PARTS[:6]), 6, ["is cut off after this line", "the carry block has no line O"]),
+    "cut off in O": (b"".join(PARTS[:7])[:-3], 7, ["is cut off in this line", "the carry block has no line O"]),
+    "cut off after O": (b"".join(PARTS[:7]), 7, ["is cut off after this line", "has 0 of 75 lines B"]),
+    "cut off in the block": (b"".join(PARTS[:-3]), 79, ["is cut off after this line", "has 72 of 75 lines B"]),
+    "cut off in the block, and another": (b"".join(PARTS[:-3]) + EXAMPLE_SHEET, 80,
+                                          ["a line B comes next: the carry block has 72 of 75 lines B"]),
+    "no block, and another": (b"".join(PARTS[:6]) + EXAMPLE_SHEET, 7,
+                              ["a line O comes next: the carry block has no line O"]),
+    "no O": (b"".join([*PARTS[:6], *PAST]), 7, ["a line O comes next: the carry block has no line O"]),
+    "two O": (b"".join([*PARTS[:7], *PARTS[6:]]), 8, ["a line B comes next: the carry block has 0 of 75 lines B"]),
+    "a B too many": (EXAMPLE_SHEET + PAST[0], 83, ["a line too many: the carry block has 75 of 75 lines B"]),
+    "a block for another interval": (changed(EXAMPLE_SHEET, b"\t4\t5000", b"\t3\t5000"), 82,
+                                     ["is cut off after this line", "the carry block has 75 of 100 lines B"]),
+    "a block before T": (b"".join([HEAD, *MIDDLE, BOUNDS, TOTAL]), 6, ["the carry block stands after T"]),
+    "a block alone": (BOUNDS + b"".join(PAST), 1, ["a sheet begins with a line V"]),
+    "T twice": (b"".join([*PARTS[:6], TOTAL]), 7, ["a line O comes next: the carry block has no line O"]),
+    "a refusal after T": (b"".join(PARTS[:6]) + b"R\t9\t14\n", 7, ["a line O comes next"]),
+    "a refusal in the block": (b"".join(PARTS[:9]) + b"R\t9\t14\n", 10, ["the carry block has 2 of 75 lines B"]),
+    "a bound with a decimal": (changed(EXAMPLE_SHEET, b"O\t54000000", b"O\t54000000,0"), 7, ["no line of a sheet"]),
+    "one bound": (changed(EXAMPLE_SHEET, b"O\t54000000\t54000000", b"O\t54000000"), 7, ["no line of a sheet"]),
+    "a bound of 12 digits": (changed(EXAMPLE_SHEET, b"O\t54000000", b"O\t540000000000"), 7, ["no line of a sheet"]),
+    "a past setpoint with a sign": (EXAMPLE_SHEET[:-len(PAST[0])] + b"B\t+10000\n", 82, ["no line of a sheet"]),
+    "a past setpoint that is none": (EXAMPLE_SHEET + b"B\tx\n", 83, ["no sheet begins here", "as settle prints it"]),
     "cut off, and another": (b"".join([HEAD, *MIDDLE, EXAMPLE_SHEET]), 6, ["another sheet begins here"]),
     "no V": (EXAMPLE_SHEET[len(HEAD):], 1, ["a sheet begins with a line V"]),
     "T alone": (TOTAL, 1, ["a sheet begins with a line V"]),
@@ -325,6 +357,7 @@ NO_SHEETS = {
     "no Q of N": (b"".join([HEAD, *MIDDLE[:-1], TOTAL]), 5, ["the line Q of quarter hour 0, N is missing"]),
     "no Q of N before R": (b"".join([HEAD, *MIDDLE[:-1], b"R\t9\t14\n"]), 5, ["quarter hour 0, N is missing"]),
     "Q of P missing": (HEAD + MIDDLE[-1] + TOTAL, 2, ["the next line Q is that of quarter hour 0, P"]),
+    "T alone, with its block": (b"".join(PARTS[5:]), 1, ["a sheet begins with a line V"]),
     "quarter hours out of order": (changed(SHARPEST_SHEET, b"Q\t2\tP", b"Q\t3\tP"), 134,
                                    ["the next line Q is that of quarter hour 2, P"]),
     "K of another quarter hour": (changed(SHARPEST_SHEET, b"K\t1\tN\tNA", b"K\t0\tN\tNA"), 102,
@@ -337,7 +370,7 @@ NO_SHEETS = {
     "a decimal": (changed(EXAMPLE_SHEET, b"2489", b"2489,0"), 2, ["this is no line of a sheet", "2489,0"]),
     "a leading zero": (changed(EXAMPLE_SHEET, b"2489", b"02489"), 2, ["this is no line of a sheet"]),
     "a field too many": (changed(EXAMPLE_SHEET, b"7904\t0", b"7904\t0\t0"), 4, ["this is no line of a sheet"]),
-    "a blank line below": (EXAMPLE_SHEET + b"\n", 7, ["no sheet begins here", "line 7 is empty"]),
+    "a blank line below": (EXAMPLE_SHEET + b"\n", 83, ["no sheet begins here", "line 83 is empty"]),
     "a blank line within": (changed(EXAMPLE_SHEET, b"Q\t0\tN", b"\nQ\t0\tN"), 5, ["this is no line of a sheet"]),
 }
 
@@ -360,7 +393,8 @@ class NoSheets(Explained):
                 self.assertEqual(answer.stdout != b"", before)
 
     def test_every_cut(self):
-        for length in range(len(EXAMPLE_SHEET)):
+        # from the third setpoint of the block on, all goes by its line alone
+        for length in (*range(len(b"".join(PARTS[:9]))), *range(len(EXAMPLE_SHEET) - 20, len(EXAMPLE_SHEET))):
             self.file("cut", EXAMPLE_SHEET[:length])
             with Input(str(self.folder / "cut")) as source, self.assertRaises(printed.NoSheet):
                 list(printed.read(source))
@@ -370,8 +404,17 @@ class NoSheets(Explained):
         for size in (*range(1, 60), 1 << 16):
             with unittest.mock.patch("desk.inputs.BLOCK", size), Input(str(self.folder / "two")) as source:
                 sheets = list(printed.read(source))
-            self.assertEqual([(sheet.first, sheet.last.number) for sheet in sheets], [(1, 6), (7, 12)])
+            self.assertEqual([(sheet.first, sheet.last.number) for sheet in sheets], [(1, 82), (83, 164)])
             self.assertEqual([len(sheet.parts[0].lines) for sheet in sheets], [2, 2])
+            self.assertEqual([sheet.block[0].number for sheet in sheets], [7, 89])
+
+    def test_blocks_of_each_interval(self):
+        for interval, past in ((b"1", 301), (b"3", 100), (b"4", 75)):
+            lines = [HEAD.replace(b"\t4\t", b"\t" + interval + b"\t"), *MIDDLE, TOTAL,
+                     b"O\t10800000000\t-10800000000\n", *[b"B\t-2000000\n"] * past]
+            self.assertEqual(self.explained(b"".join(lines)).returncode, ACCEPTED)
+            self.assertEqual(self.explained(b"".join(lines[:-1])).returncode, TROUBLE)
+            self.assertEqual(self.explained(b"".join([*lines, lines[-1]])).returncode, TROUBLE)
 
 
 class Words(FrontEnd):

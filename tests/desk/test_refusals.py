@@ -2,7 +2,7 @@
 import random
 import re
 
-from common import CONTRACTS, GOOD, HEADER, ROOT, SAMPLES, FrontEnd, lines, program
+from common import BLOCK, CONTRACTS, GOOD, HEADER, ROOT, SAMPLES, FrontEnd, lines, program
 
 from desk import endings, messages, programs, refusals
 from desk.inputs import Input
@@ -35,6 +35,23 @@ GROUNDS = {
     "1 a quarter hour too few": (lines(FOUR, SAMPLES * 3, "E"), 1, 677,
         ["E after 225 of 225 samples of quarter hour 2", "225 samples are missing"]),
     "1 no sample": (lines(HEADER, "E"), 1, 2, ["E before the first sample", "225 samples are missing"]),
+    "1 O after a contract": (lines(HEADER, CONTRACTS, BLOCK), 1, 4,
+        ["O<TAB>54000000<TAB>54000000", "an O line after a contract: a carry block stands directly after the D line",
+         "move the O line and its B lines up"]),
+    "1 O after a sample": (lines(HEADER, SAMPLES[:3], BLOCK), 1, 5, ["an O line after 3 of 225 samples"]),
+    "1 O first": (lines(BLOCK), 1, 1, ["this one begins with O", "put the D line first"]),
+    "1 O twice": (lines(HEADER, BLOCK[:1], BLOCK), 1, 3,
+        ["a second O line, after 0 of 75 B lines", "leave one block"]),
+    "1 two blocks": (lines(HEADER, BLOCK, BLOCK), 1, 78, ["a second O line, after 75 of 75 B lines"]),
+    "1 B without O": (lines(HEADER, BLOCK[1:]), 1, 2, ["no O line directly after the D line", "put the O line"]),
+    "1 B after a contract": (lines(HEADER, BLOCK, CONTRACTS, BLOCK[1]), 1, 80,
+        ["a B line after the carry block, which has its 75 B lines", "take the line out"]),
+    "1 B after a sample": (lines(HEADER, SAMPLES, BLOCK[1]), 1, 227, ["no O line directly after the D line"]),
+    "1 header in a block": (lines(HEADER, BLOCK[:9], HEADER), 1, 11,
+        ["a second header, after 8 of 75 B lines of the carry block"]),
+    "1 end in a block": (lines(HEADER, BLOCK[:9], "E"), 1, 11,
+        ["E after 8 of 75 B lines of the carry block", "225 samples are missing"]),
+    "1 end after a block": (lines(HEADER, BLOCK, "E"), 1, 78, ["E before the first sample"]),
     "2": (changed(1, "D\t2017-02-20\t2\t-\t1"), 2, 1,
         ["interval not 1, 3 or 4", "field 3 (interval in seconds): 2", "write 1, 3 or 4"]),
     "3": (changed(1, "D\t2017-02-20\t4\t0\t1"), 3, 1, ["lot not 1 to 1,000,000 kW", "field 4 (lot in kW): 0"]),
@@ -63,7 +80,7 @@ GROUNDS = {
          "the cheapest first"]),
     "13 setpoint": (changed(10, "S\t2000001\t0"), 13, 10, ["field 2 (setpoint in kW): 2000001"]),
     "13 actual": (changed(10, "S\t0\t-2000001"), 13, 10, ["field 3 (actual in kW): -2000001"]),
-    "14": (changed(10, "X"), 14, 10, ["the line is ill-formed", "X begins no line", "D, C, S or E"]),
+    "14": (changed(10, "X"), 14, 10, ["the line is ill-formed", "X begins no line", "D, O, B, C, S or E"]),
     "15 end without line end": (GOOD[:-1], 15, 229,
         ["line 229 (no line end): E", "the last line says E and has no line end", "put a line end behind E"]),
     "15 empty": (b"", 15, 1, ["the input is empty"]),
@@ -71,6 +88,22 @@ GROUNDS = {
     "15 cut between lines": (lines(FOUR, SAMPLES, SAMPLES[:100]), 15, 327,
         ["ends after 100 of 225 samples of quarter hour 1", "may be cut off"]),
     "15 cut in a line": (GOOD[:1000], 15, 76, ["no line end and is not E", "after 72 of 225 samples"]),
+    "15 cut in a block": (lines(HEADER, BLOCK[:9]), 15, 11,
+        ["ends after 8 of 75 B lines of the carry block", "may be cut off"]),
+    "15 cut in a line of a block": (lines(HEADER, BLOCK[:9])[:-3], 15, 10,
+        ["is not E, after 7 of 75 B lines of the carry block", "may be cut off"]),
+    "17 one too few": (lines(HEADER, BLOCK[:-1], CONTRACTS), 17, 77,
+        ["C<TAB>P<TAB>A1", "the carry block has 74 of 75 B lines where this line comes", "75 B lines at an interval"]),
+    "17 none": (lines(HEADER, BLOCK[:1], SAMPLES), 17, 3, ["0 of 75 B lines"]),
+    "17 one too many": (lines(HEADER, BLOCK, BLOCK[1]), 17, 78,
+        ["the carry block has its 75 B lines, as many as an interval of 4 s wants", "there twice"]),
+    "17 another interval": (lines("D\t2017-02-20\t3\t-\t1", BLOCK, CONTRACTS), 17, 78,
+        ["75 of 100 B lines", "so many has one at an interval of 4 s"]),
+    "18 OGA": (lines(HEADER, "O\t10800000001\t0"), 18, 2, ["field 2 (OGA in units): 10800000001", "copy the block"]),
+    "18 UGA": (lines(HEADER, "O\t0\t-10800000001"), 18, 2, ["field 3 (UGA in units): -10800000001"]),
+    "18 setpoint": (lines(HEADER, BLOCK[:9], "B\t2000001"), 18, 11, ["field 2 (setpoint in kW): 2000001"]),
+    "18 newest": (lines(HEADER, BLOCK[:-1], "B\t10001"), 18, 77,
+        ["the newest setpoint, 10,001 kW, is 54,005,400 units, and the O line has UGA 54,000,000 and OGA 54,000,000"]),
 }
 
 CAUSES = {
@@ -101,6 +134,11 @@ CAUSES = {
     "typographic minus": (changed(10, "S\t\u2212100\t9600"), 14, 10, ["a minus or dash that is not the plain sign"]),
     "minus behind": (changed(10, "S\t100-\t9600"), 14, 10, ["a minus after the number"]),
     "ten digits": (changed(10, "S\t1000000000\t0"), 14, 10, ["more than 9 digits"]),
+    "twelve digits of a bound": (lines(HEADER, "O\t0\t-100000000000"), 14, 2,
+        ["field 3 (UGA in units): -100000000000", "more than 11 digits", "copy the O line"]),
+    "a bound with a point": (lines(HEADER, "O\t54.0\t0"), 14, 2, ["field 2 (OGA in units): 54.0", "a decimal point"]),
+    "too few bounds": (lines(HEADER, "O\t54"), 14, 2, ["too few fields: 2, and 3 are wanted", "O<TAB>OGA<TAB>UGA"]),
+    "ten digits of a past setpoint": (lines(HEADER, BLOCK[:3], "B\t1000000000"), 14, 5, ["more than 9 digits"]),
     "unit": (changed(10, "S\t100kW\t0"), 14, 10, ["a unit behind the number"]),
     "power of ten": (changed(10, "S\t1e4\t0"), 14, 10, ["a power of ten"]),
     "space beside a number": (changed(10, "S\t100 \t0"), 14, 10, ["100<SPACE>", "a space before or after the number"]),
@@ -162,7 +200,7 @@ class Words(FrontEnd):
 
     def test_each_ground(self):
         self.check(GROUNDS)
-        self.assertEqual({case[1] for case in GROUNDS.values()}, set(range(1, 16)))
+        self.assertEqual({case[1] for case in GROUNDS.values()}, {*range(1, 16), 17, 18})
 
     def test_each_cause(self):
         self.check(CAUSES)
@@ -222,8 +260,10 @@ class Guesses(FrontEnd):
 
     def damaged(self, chance):
         parts = GOOD.decode().splitlines()
+        if chance.random() < 0.5:
+            parts[1:1] = BLOCK
         for _ in range(chance.randint(1, 2)):
-            place = chance.randrange(chance.choice([4, 8, len(parts)]))
+            place = chance.randrange(chance.choice([4, 8, 80, len(parts)]))
             fields = parts[place].split("\t")
             fields[chance.randrange(len(fields))] = chance.choice([*ODD, "9" * chance.randint(1, 12)])
             parts[place] = chance.choice(["\t", "\t", "\t", ";", " "]).join(fields)

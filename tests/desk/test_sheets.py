@@ -5,7 +5,8 @@ import os
 import re
 import unittest
 
-from common import CONTRACTS, DAY, DAY_SHEET, EXAMPLE, EXAMPLE_SHEET, GOOD, HEADER, ROOT, SAMPLES, FrontEnd, lines
+from common import (CONTRACTS, DAY, DAY_SHEET, EXAMPLE, EXAMPLE_SHEET, GOOD, HEADER, MONDAY, ROOT, SAMPLES, SUNDAY,
+                    FrontEnd, lines)
 from desk import sheets
 from desk.endings import Trouble
 
@@ -89,6 +90,9 @@ class Csv(FrontEnd):
                                        "rest of AK kWh"])
         self.assertTrue(all(len(row) == len(header) for row in rows))
         sheet = [line.split("\t") for line in DAY_SHEET.decode().splitlines()]
+        # the carry block is passed over
+        self.assertEqual([line[0] for line in sheet[-76:]], ["O"] + ["B"] * 75)
+        del sheet[-76:]
         self.assertEqual([row[0] for row in rows], [line[0] for line in sheet[1:]])
         for row, line in zip(rows, sheet[1:]):
             figures = [cell for cell in row[7:] if cell]
@@ -123,7 +127,7 @@ class Explained(FrontEnd):
         answer = self.shell('"$fireboxer" settle --join "$example" "$day" | "$fireboxer" explain')
         self.assertEqual((answer.returncode, answer.stderr), (0, ""))
         names = re.findall(r"^standard input(.*), 2017-02-20", answer.stdout.decode(), re.M)
-        self.assertEqual(names, ["", " from line 7"])
+        self.assertEqual(names, ["", " from line 83"])
 
     def test_refused(self):
         for data in (b"", GOOD[:1000], GOOD[:-2]):
@@ -138,9 +142,13 @@ class Format(unittest.TestCase):
 
     def test_format(self):
         self.assertEqual(sheets.read(EXAMPLE_SHEET).quarters, 1)
-        for other in (b"V\t1\t", b"V\t3\t", b"V\t22\t"):
-            with self.assertRaisesRegex(Trouble, "only format 2 is read here"):
-                sheets.read(EXAMPLE_SHEET.replace(b"V\t2\t", other))
+        for other in (b"V\t1\t", b"V\t2\t", b"V\t33\t"):
+            with self.assertRaisesRegex(Trouble, "only format 3 is read here"):
+                sheets.read(EXAMPLE_SHEET.replace(b"V\t3\t", other))
+
+    def test_block_is_passed_over(self):
+        without = EXAMPLE_SHEET[:EXAMPLE_SHEET.index(b"O\t")]
+        self.assertEqual(sheets.read(EXAMPLE_SHEET), sheets.read(without))
 
 
 class AfterEnd(FrontEnd):
@@ -174,6 +182,7 @@ class Inspect(FrontEnd):
         text = answer.stdout.decode()
         for words in ("accepted", "2017-02-20", "4 s, 225 samples a quarter hour",
                       "5,000 kW (the header has -, the usual lot)", "P: 8 (SRL-A1, ", "82,243 kW awarded",
+                      "start      no carry block: as if the first setpoint had always stood",
                       "-1,980 to 8,945 cent per MWh", "samples    21,600", "1,440 minutes, 96 quarter hours",
                       "line 21,618"):
             self.assertIn(words, text)
@@ -184,6 +193,11 @@ class Inspect(FrontEnd):
         for words in ("1,000 kW (from the header)", "P: none", "N: none", "15 minutes, 1 quarter hour\n",
                       "more follows that is not read"):
             self.assertIn(words, text)
+
+    def test_block(self):
+        text = self.call("inspect", MONDAY).stdout.decode()
+        self.assertIn("start      a carry block on lines 2 to 77: OGA 54,000,000 and UGA 14,000,000 units\n", text)
+        self.assertIn("samples    225\n", text)
 
     def test_one_contract(self):
         text = self.call("inspect", input=lines(HEADER, CONTRACTS[0], SAMPLES, "E")).stdout.decode()
@@ -198,10 +212,19 @@ class Readme(FrontEnd):
         self.text = (ROOT / "README.md").read_text(encoding="utf-8")
 
     def test_sheets(self):
-        printed = self.call("settle", "--join", EXAMPLE, ROOT / "examples" / "negative.txt", REST).stdout
+        without_block = re.sub(rb"[OB]\t.*\n", b"", MONDAY.read_bytes())
+        printed = self.call("settle", "--join", EXAMPLE, ROOT / "examples" / "negative.txt", REST, MONDAY, "-",
+                            input=without_block).stdout
         shown = re.findall(r"^    ([VQKT]\|\S*)", self.text, re.M)
-        self.assertEqual(len(shown), 12)
+        self.assertEqual(len(shown), 14)
         self.assertLessEqual(set(shown), set(printed.decode().replace("\t", "|").splitlines()))
+
+    def test_block(self):
+        shown = re.findall(r"^    ([OB]\|\S*)", self.text, re.M)
+        sunday, example = (self.call("settle", path).stdout.decode().replace("\t", "|") for path in (SUNDAY, EXAMPLE))
+        for sheet, (bounds, *past), counts in ((sunday, shown[:3], (50, 25)), (example, shown[3:], (75,))):
+            setpoints = "".join(f"{line}\n" * count for line, count in zip(past, counts))
+            self.assertTrue(sheet.endswith(f"\n{bounds}\n{setpoints}"))
 
     def test_message(self):
         self.file("day.txt", lines(HEADER, CONTRACTS[0], "C\tP\tA2\t6000\t80,00"))

@@ -3,6 +3,8 @@ use mathlib.Core.Path.{_∙_, sym}
 use denote.Ref.{now}
 use Rattle.binding.specs.Single.{Single, SingleIn}
 use Rattle.reading.proofs.header_line.Reads as header-line
+use Rattle.reading.proofs.bounds_line.Reads as bounds-line
+use Rattle.reading.proofs.setpoint_line.Reads as setpoint-line
 use Rattle.reading.proofs.contract_line.Reads as contract-line
 use Rattle.reading.proofs.sample_line.Reads as sample-line
 use Rattle.reading.proofs.end_line.Reads as end-line
@@ -11,6 +13,12 @@ use Rattle.reading.proofs.read.Reads as read
 
 header-line-single : Single header-line.Post
 header-line-single κs a r r′ x x′ p q = p ∙ sym q
+
+bounds-line-single : Single bounds-line.Post
+bounds-line-single κs a r r′ x x′ p q = p ∙ sym q
+
+setpoint-line-single : Single setpoint-line.Post
+setpoint-line-single κs a r r′ x x′ p q = p ∙ sym q
 
 contract-line-single : Single contract-line.Post
 contract-line-single κs a r r′ x x′ p q = p ∙ sym q

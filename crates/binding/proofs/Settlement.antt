@@ -3,6 +3,8 @@ use mathlib.Core.Path.{_∙_, sym}
 use Rattle.binding.specs.Single.{Single}
 use Rattle.settlement.proofs.run.Run.open.Reads as opened
 use Rattle.settlement.proofs.run.Run.books.Reads as books
+use Rattle.settlement.proofs.run.Run.bounds.Reads as bounds
+use Rattle.settlement.proofs.run.Run.setpoint.Reads as setpoint
 use Rattle.settlement.proofs.run.Run.contract.Reads as contract
 use Rattle.settlement.proofs.run.Run.sample.Reads as sample
 use Rattle.settlement.proofs.run.Run.samples.Reads as samples
@@ -16,6 +18,12 @@ opened-single κs a r r′ x x′ p q = p ∙ sym q
 
 books-single : Single books.Post
 books-single κs a r r′ x x′ p q = p ∙ sym q
+
+bounds-single : Single bounds.Post
+bounds-single κs a r r′ x x′ p q = p ∙ sym q
+
+setpoint-single : Single setpoint.Post
+setpoint-single κs a r r′ x x′ p q = p ∙ sym q
 
 contract-single : Single contract.Post
 contract-single κs a r r′ x x′ p q = p ∙ sym q

@@ -5,6 +5,8 @@ use Rattle.binding.specs.Single.{SingleBytes}
 use Rattle.sheets.proofs.print_head.Reads as print-head
 use Rattle.sheets.proofs.print_quarter.Reads as print-quarter
 use Rattle.sheets.proofs.print_total.Reads as print-total
+use Rattle.sheets.proofs.print_block.Reads as print-block
+use Rattle.sheets.proofs.print_closing.Reads as print-closing
 use Rattle.sheets.proofs.print_refusal.Reads as print-refusal
 
 print-head-single : SingleBytes (λ κs x. now (x .0)) print-head.Post
@@ -15,6 +17,12 @@ print-quarter-single κs a r r′ x x′ p q = (p .0 ∙ sym (q .0), p .1 .0 ∙
 
 print-total-single : SingleBytes (λ κs x. now (x .0)) print-total.Post
 print-total-single κs a r r′ x x′ p q = (p .0 ∙ sym (q .0), p .1 .0 ∙ sym (q .1 .0))
+
+print-block-single : SingleBytes (λ κs x. now (x .0)) print-block.Post
+print-block-single κs a r r′ x x′ p q = (p .0 ∙ sym (q .0), p .1 .0 ∙ sym (q .1 .0))
+
+print-closing-single : SingleBytes (λ κs x. now (x .0)) print-closing.Post
+print-closing-single κs a r r′ x x′ p q = (p .0 ∙ sym (q .0), p .1 .0 ∙ sym (q .1 .0))
 
 print-refusal-single : SingleBytes (λ κs x. now (x .0)) print-refusal.Post
 print-refusal-single κs a r r′ x x′ p q = (p .0 ∙ sym (q .0), p .1 .0 ∙ sym (q .1 .0))

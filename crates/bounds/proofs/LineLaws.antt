@@ -13,7 +13,7 @@ use Rattle.vocabulary.specs.Interval.{windowsOf}
 use Rattle.bounds.specs.declared.side.Side.{Side}
 use Rattle.bounds.specs.declared.side.Side.the-variants.{Upper, Lower}
 use Rattle.bounds.specs.declared.bound.Seen.{Seen}
-use Rattle.bounds.specs.declared.bound.Bounds.{Bounds}
+use Rattle.vocabulary.specs.declared.acceptance.Bounds.{Bounds}
 use Rattle.bounds.specs.declared.line.Led.{Led}
 use Rattle.bounds.specs.Side.{fartherOf, seenBy, nextOf}
 use Rattle.bounds.specs.Widening.{backAt, endingAt, Reaching}

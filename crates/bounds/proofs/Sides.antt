@@ -13,7 +13,7 @@ use Rattle.arithmetic.proofs.Signed.{max-ind, min-ind, max-right, min-right, lt
 use Rattle.vocabulary.specs.declared.interval.Interval.{Interval}
 use Rattle.bounds.specs.declared.side.Side.{Side}
 use Rattle.bounds.specs.declared.side.Side.the-variants.{Upper, Lower}
-use Rattle.bounds.specs.declared.bound.Bounds.{Bounds}
+use Rattle.vocabulary.specs.declared.acceptance.Bounds.{Bounds}
 use Rattle.bounds.specs.Windows.{spreadOf, gradientOf, nextOga, nextUga}
 use Rattle.bounds.specs.Side.{fartherOf, inwardOf, seenBy, nextOf}
 

@@ -8,7 +8,7 @@ use Rattle.vocabulary.specs.Interval.{windowsOf}
 use Rattle.bounds.specs.declared.side.Side.{Side}
 use Rattle.bounds.specs.declared.side.Side.the-variants.{Upper, Lower}
 use Rattle.bounds.specs.declared.bound.Seen.{Seen}
-use Rattle.bounds.specs.declared.bound.Bounds.{Bounds}
+use Rattle.vocabulary.specs.declared.acceptance.Bounds.{Bounds}
 use Rattle.bounds.specs.Windows.{over, largest, smallest, nextOga, nextUga}
 
 -- of two numbers the one farther out: the larger, or the smaller

@@ -4,6 +4,7 @@ use crate::side::farther;
 use arithmetic::power::Units;
 use arithmetic::power::in_units;
 use arithmetic::whole::larger;
+use vocabulary::acceptance::Bounds;
 use vocabulary::interval::Interval;
 ghost use mathlib.Core.Path.{_≡_};
 ghost use Prim.Native.Nat.{_^_, _≤_, _<_};
@@ -18,11 +19,6 @@ pub struct Seen {
     pub lowest: i32,
     pub most: i32,
     pub least: i32,
-}
-
-pub struct Bounds {
-    pub oga: Units,
-    pub uga: Units,
 }
 
 // The gradient per interval, in units, by the largest and the smallest setpoint in the spread window. It is never negative, since the lot is not.

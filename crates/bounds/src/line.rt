@@ -1,10 +1,10 @@
 // The bounds along a line of up to 1,202 setpoints, oldest first: the windows at all of them by a few passes, then the bounds one by one.
-use crate::bound::Bounds;
 use crate::bound::Seen;
 use crate::bound::next_bounds;
 use crate::side::Side;
 use crate::widening::grown;
 use arithmetic::whole::least;
+use vocabulary::acceptance::Bounds;
 use vocabulary::interval::Interval;
 ghost use mathlib.Core.Path.{_≡_};
 ghost use mathlib.Core.List.{List};

@@ -22,7 +22,7 @@ pub(crate) fn answered(line: u64, refusal: Refusal) {
     io::write_all(STDOUT_FILENO, b"\n");
 }
 
-// With how many samples were accepted, or how many bytes were printed.
+// With how many past setpoints or samples were accepted, or how many bytes were printed.
 pub(crate) fn counted(line: u64, refusal: Refusal, count: u64) {
     begun(line, refusal);
     also(count);
@@ -59,12 +59,23 @@ pub(crate) fn showed(printed: Printed, out: &[u8]) {
     }
 }
 
-// A printing call's answer and the whole buffer that it was lent.
+// The buffer that a printing call was lent, whole.
+fn buffer(lent: &[u8]) {
+    io::write_all(STDOUT_FILENO, lent);
+    io::write_all(STDOUT_FILENO, b"\n");
+}
+
+// A printing call's answer and its buffer.
 pub(crate) fn showed_whole(line: u64, printed: Printed, lent: &[u8]) {
     match printed {
         Printed::Length(n) => counted(line, Refusal::None, n as u64),
         Printed::TooShort => answered(line, Refusal::BufferTooShort),
     }
-    io::write_all(STDOUT_FILENO, lent);
-    io::write_all(STDOUT_FILENO, b"\n");
+    buffer(lent);
+}
+
+// A printing call that is refused for another reason, and the buffer that stays as it is.
+pub(crate) fn refused_whole(line: u64, refusal: Refusal, lent: &[u8]) {
+    answered(line, refusal);
+    buffer(lent);
 }

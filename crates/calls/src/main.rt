@@ -1,6 +1,8 @@
 // Library calls in any order and with any numbers: each line of a script on standard input is one call on the one run at hand, and what it answered
 // is written, so that another program can be compared. The lines of a script, with | for the tab:
 //   O|year|month|day|interval|lot|quarters        opens a run; what that gives, refused or not, takes the place of the run at hand
+//   A|OGA|UGA                                     the bounds that a block begins with, in units
+//   B|times|setpoint                              the same past setpoint of the block so often
 //   C|P or N|award|price|identifier               a contract
 //   S|times|setpoint|actual                       the same sample so often
 //   K                                             takes the quarter hour
@@ -9,14 +11,17 @@
 //   V|B or T|bytes|year|month|day|interval|lot    prints a head
 //   Q|B or T|bytes|quarter                        prints the sheets of the last taking
 //   T|B or T|bytes|quarters|fees|penalties        prints a total
+//   P|B or T|bytes                                prints the block that the run hands on
 //   R|B or T|bytes|line|refusal                   prints a refusal
-// A printing call is lent so many bytes (B), or so many more or fewer than its text has (T). An answer is a line with the number of the script's line,
-// that of the refusal (0 where there is none) and a count: the samples accepted, the contracts in each direction, the length of what was printed. After
-// it stand, whether refused or not, the sheets, the total, the head, and the whole buffer that was lent.
+// A printing call is lent so many bytes (B), or so many more or fewer than its text has (T). A run that can't be ended yet hands on no block: P is
+// refused as the end is, whatever is lent, and its text has no byte. An answer is a line with the number of the script's line, that of the refusal (0
+// where there is none) and a count: the past setpoints or samples accepted, the contracts in each direction, the length of what was printed. After it
+// stand, whether refused or not, the sheets, the total, the head, and the whole buffer that was lent.
 mod answer; // what is written
 mod script; // what the fields of a line say
 
 use arithmetic::money::Cents;
+use arithmetic::power::Units;
 use libc::STDIN_FILENO;
 use quarter::sheet::Sheets;
 use quarter::sheet::no_sheets;
@@ -24,10 +29,12 @@ use settlement::run::Answer;
 use settlement::run::Run;
 use settlement::run::Taken;
 use sheets::Printed;
+use sheets::print_block;
 use sheets::print_head;
 use sheets::print_quarter;
 use sheets::print_refusal;
 use sheets::print_total;
+use vocabulary::acceptance::Bounds;
 use vocabulary::contract::Contract;
 use vocabulary::direction::Direction;
 use vocabulary::header::Header;
@@ -53,6 +60,20 @@ fn open(at: u64, line: &[u8]) -> Run {
     opened.run
 }
 
+fn bounds_of(line: &[u8]) -> Bounds {
+    Bounds {
+        oga: Units(script::number(line, 1)),
+        uga: Units(script::number(line, 2)),
+    }
+}
+
+fn bounds(run: Run, at: u64, line: &[u8]) -> Run {
+    let answer = run.bounds(bounds_of(line));
+    let refusal = answer.refusal;
+    answer::answered(at, refusal);
+    answer.run
+}
+
 fn contract_of(line: &[u8]) -> Contract {
     Contract {
         direction: script::direction(line, 1),
@@ -75,19 +96,28 @@ fn sample_of(line: &[u8]) -> Sample {
     }
 }
 
-// The same sample so often: what the last answered is told, and how many were accepted.
-fn samples(run: Run, at: u64, sample: Sample, times: u64) -> Run {
+// What a line may give more than once: a past setpoint or a sample.
+fn given(run: Run, line: &[u8]) -> Answer {
+    if script::letter(line, 0) == b'B' {
+        return run.setpoint(script::integer(line, 2));
+    }
+    run.sample(sample_of(line))
+}
+
+// The same so often: what the last answered is told, and how many were accepted.
+fn repeated(run: Run, at: u64, line: &[u8]) -> Run {
+    let times = script::count(line, 1, 65_535);
     let mut last = Answer {
         run: run,
         refusal: Refusal::None,
     };
     let mut accepted: u64 = 0;
-    let mut given: u64 = 0;
-    while given < times {
-        last = last.run.sample(sample);
+    let mut done: u64 = 0;
+    while done < times {
+        last = given(last.run, line);
         let refusal = last.refusal;
         accepted = std::num::wrapping_add_u64(accepted, (refusal.number() == 0) as u64);
-        given += 1;
+        done += 1;
     }
     let refusal = last.refusal;
     answer::counted(at, refusal, accepted);
@@ -138,9 +168,10 @@ fn take(run: Run, at: u64) -> Taken {
 }
 
 // The printing call of a line.
-fn printed(sheets: Sheets, line: &[u8], out: &mut [u8]) -> Printed {
+fn printed(held: Taken, line: &[u8], out: &mut [u8]) -> Printed {
     match script::letter(line, 0) {
-        b'Q' => print_quarter(out, script::byte(line, 3), sheets),
+        b'Q' => print_quarter(out, script::byte(line, 3), held.sheets),
+        b'P' => print_block(out, held.run.end().past),
         b'V' => print_head(
             out,
             script::date(line, 3),
@@ -163,14 +194,26 @@ fn printed(sheets: Sheets, line: &[u8], out: &mut [u8]) -> Printed {
 
 // A printing call, and the whole buffer that it was lent. The length of the text, which is printed first where it has room, may decide how much is
 // lent.
-fn print(sheets: Sheets, at: u64, line: &[u8]) {
+fn print(held: Taken, at: u64, line: &[u8]) {
     let mut whole = answer::dotted();
-    let text = answer::length_of(printed(sheets, line, &mut whole));
+    let text = answer::length_of(printed(held, line, &mut whole));
     let n = script::lent(line, text);
     let mut buf = answer::dotted();
     let lent = &mut buf[..n];
-    let told = printed(sheets, line, lent);
+    let told = printed(held, line, lent);
     answer::showed_whole(at, told, lent);
+}
+
+// The block that the run hands on, once it can be ended; before that no byte is printed.
+fn block(held: Taken, at: u64, line: &[u8]) {
+    let ended = held.run.end();
+    let refusal = ended.refusal;
+    if refusal.number() == 0 {
+        return print(held, at, line);
+    }
+    let n = script::lent(line, 0);
+    let buf = answer::dotted();
+    answer::refused_whole(at, refusal, &buf[..n]);
 }
 
 // The call of a line, which is the `at`-th of the script. What is held from call to call is what the last taking answered, with the run at hand in it;
@@ -181,17 +224,14 @@ fn called(mut held: Taken, at: u64, line: &[u8]) -> Taken {
             held.run = open(at, line);
             held.sheets = no_sheets();
         }
+        b'A' => held.run = bounds(held.run, at, line),
         b'C' => held.run = contract(held.run, at, line),
-        b'S' => held.run = samples(
-            held.run,
-            at,
-            sample_of(line),
-            script::count(line, 1, 65_535),
-        ),
+        b'B' | b'S' => held.run = repeated(held.run, at, line),
         b'K' => return take(held.run, at),
         b'E' => held.run = end(held.run, at),
         b'H' => heading(held.run, at),
-        _ => print(held.sheets, at, line),
+        b'P' => block(held, at, line),
+        _ => print(held, at, line),
     }
     held
 }

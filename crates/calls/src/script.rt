@@ -90,7 +90,7 @@ pub(crate) fn interval(line: &[u8], k: usize) -> Interval {
 }
 
 pub(crate) fn refusal(line: &[u8], k: usize) -> Refusal {
-    match count(line, k, 16) {
+    match count(line, k, 18) {
         1 => Refusal::WrongMoment,
         2 => Refusal::BadInterval,
         3 => Refusal::BadLot,
@@ -107,6 +107,8 @@ pub(crate) fn refusal(line: &[u8], k: usize) -> Refusal {
         14 => Refusal::BadLine,
         15 => Refusal::NoEnd,
         16 => Refusal::BufferTooShort,
+        17 => Refusal::BadBlockLength,
+        18 => Refusal::BadBlockValue,
         _ => Refusal::None,
     }
 }

@@ -22,7 +22,7 @@ use Rattle.bounds.specs.declared.side.Side.the-variants.{Upper, Lower}
 use Rattle.bounds.specs.Windows.{over, spreadOf, gradientOf}
 use Rattle.bounds.specs.Side.{fartherOf, boundOf}
 use Rattle.bounds.proofs.Sides.{farther-ind}
-use Rattle.channel.specs.Start.{Block, Start, fresh, carried, carriedBy}
+use Rattle.channel.specs.Start.{Start, fresh, carried, carriedBy}
 use Rattle.channel.specs.Backward.{seriesAfter, first, past, before, pastFrom, ogaOf, ugaOf}
 use Rattle.channel.specs.Block.{backTo, blockOf}
 use Rattle.channel.specs.Acceptable.{boundInRange, allInRange, newestOf, Acceptable, AcceptableStart}
@@ -31,9 +31,9 @@ use Rattle.channel.proofs.Sides.{heldOf, heldBefore, Known, held-first,
 use Rattle.channel.proofs.Enclosed.{ogaOf-outside, ugaOf-outside}
 
 -- a number of magnitude n at most
-record Small (n : ℕ) (z : ℤ) : Type 0 where
-  above : up z ≤ n
-  below : down z ≤ n
+pub record Small (n : ℕ) (z : ℤ) : Type 0 where
+  pub above : up z ≤ n
+  pub below : down z ≤ n
 
 -- ---- ranges as magnitudes
 
@@ -60,7 +60,7 @@ module _ (n : ℕ) (z : ℤ) where
   small-within s =
       rw (true-le (negsuc n) z (omega (arith, up-below n, down-below n)), true-le z (pos (suc n)) (omega (arith, up-pos (suc n), down-pos (suc n))))
 
-power-small : (z : ℤ) → powerInRange z ≡ true → Small 2000000 z
+pub power-small : (z : ℤ) → powerInRange z ≡ true → Small 2000000 z
 unfolding powerInRange
 power-small z e = within-small 1999999 z e
 
@@ -68,7 +68,7 @@ small-power : (z : ℤ) → Small 2000000 z → powerInRange z ≡ true
 unfolding powerInRange
 small-power z s = small-within 1999999 z s
 
-bound-small : (z : ℤ) → boundInRange z ≡ true → Small 10800000000 z
+pub bound-small : (z : ℤ) → boundInRange z ≡ true → Small 10800000000 z
 unfolding boundInRange
 bound-small z e = within-small 10799999999 z e
 

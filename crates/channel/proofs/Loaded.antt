@@ -1,10 +1,10 @@
 -- A channel with a block loaded stands for it, and the ring and the two bounds hold the block of what a channel stands for.
 -- Assumes nothing.
-use Prim.Native.Nat.{ℕ, zero, suc, _+_, _<_}
-use mathlib.Core.Path.{_≡_, refl, sym, ap, _∙_}
+use Prim.Native.Nat.{ℕ, _+_, _<_}
+use mathlib.Core.Path.{_≡_, refl, ap, _∙_}
 use mathlib.Core.List.{List, [], _∷_, _++_, append-assoc, append-nil}
 use native.Mathlib.Omega.{arith}
-use lib.IntN.{ℤ, pos}
+use lib.IntN.{ℤ}
 use lib.ListN.{length, length-set, length-append}
 use Rattle.arithmetic.specs.Power.{unitsOf}
 use Rattle.vocabulary.specs.declared.interval.Interval.{Interval}
@@ -13,8 +13,8 @@ use Rattle.bounds.proofs.Scan.{within}
 use Rattle.channel.specs.declared.Channel.{Channel}
 use Rattle.channel.specs.Start.{Block, Start, fresh, carried}
 use Rattle.channel.specs.Backward.{seriesAfter, before, pastFrom, ogaOf, ugaOf}
-use Rattle.channel.specs.Block.{backTo, blockOf}
-use Rattle.channel.specs.State.{pastOf, newOf, filledOf, after, storedOf, recalledOf, recalledAll, boundedOf, loadedOf, startWith, blockWith, StandsFor}
+use Rattle.channel.specs.Block.{blockOf}
+use Rattle.channel.specs.State.{pastOf, newOf, filledOf, after, storedOf, recalledOf, recalledAll, boundedOf, loadedOf, startWith, blockWith, StandsFor, handedOn}
 use Rattle.channel.proofs.Series.{series-length, series-end}
 use Rattle.channel.proofs.Back.{back-same}
 use Rattle.channel.proofs.Ring.{primed-first, primed-later, filled-sized, first-agrees, stored-behind, begun-known, new-stands}
@@ -88,9 +88,10 @@ loaded-stands i lot b some = go (b .setpoints) some
         bounds-given (recalledAll (recalledOf (newOf i lot) s) ss) (b .oga) (b .uga) (record { oga = unitsOf s; uga = unitsOf s; setpoints = s ∷ ss })
         (recall-all (recalledOf (newOf i lot) s) one ss (recalls (newOf i lot) s fresh (new-stands i lot)))
 
--- THE BLOCK IN THE RING: what a channel holds is the block of its start and series
-pub block-held : {i : Interval} {lot : ℕ} {start : Start} {ch : Channel} {h : List ℤ} → StandsFor i lot start ch h
-    → _≡_ {A = Block} (record { oga = ch .oga .0; uga = ch .uga .0; setpoints = backTo (pastOf ch) (windowsOf i .to) }) (blockOf i lot start h)
-unfolding blockOf
+-- THE BLOCK IN THE RING: what a channel hands on is the block of its start and series
+pub block-held : {i : Interval} {lot : ℕ} {start : Start} {ch : Channel} {h : List ℤ} → StandsFor i lot start ch h → handedOn ch ≡ blockOf i lot start h
+unfolding blockOf handedOn pastOf
 block-held {i} {lot} {start} {ch} {h} r =
-    rw (back-same (pastOf ch) (pastFrom start h) (windowsOf i .to) (λ k l. let w = within i in r .back k (omega arith)), r .oga, r .uga)
+    rw (r .interval, r .oga, r .uga)
+    (ap (λ (ss : List ℤ). record { oga = ogaOf i lot start h; uga = ugaOf i lot start h; setpoints = ss })
+    (back-same (pastOf ch) (pastFrom start h) (windowsOf i .to) (λ k l. let w = within i in r .back k (omega arith))))

@@ -7,7 +7,7 @@ use native.Mathlib.Omega.{arith}
 use native.Mathlib.Nat.{zero-add}
 use lib.IntN.{ℤ, pos}
 use lib.ListN.{length, take, getD, length-append}
-use lib.Seq.{take-suc}
+use lib.Seq.{take-suc, take-all}
 use Rattle.arithmetic.specs.Power.{unitsOf}
 use Rattle.bounds.specs.declared.side.Side.{Side}
 use Rattle.bounds.specs.declared.side.Side.the-variants.{Upper, Lower}
@@ -33,6 +33,11 @@ first-and-next (x ∷ a) b s = ap (λ (l : List ℤ). x ∷ l) (first-and-next a
 pub told-after : (a b : List ℤ) (s : ℤ) → told (a ++ (s ∷ b)) (length a) ≡ s ∷ seriesAfter [] a
 unfolding told
 told-after a b s = ap (seriesAfter []) (first-and-next a b s) ∙ series-end [] a s
+
+-- all of them, from the last
+pub told-all : (ss : List ℤ) → 0 < length ss → told ss (length ss - 1) ≡ seriesAfter [] ss
+unfolding told
+told-all ss h = ap (seriesAfter []) (take-all (suc (length ss - 1)) ss (omega arith))
 
 module _ (ss : List ℤ) where
   told-first : 0 < length ss → told ss 0 ≡ getD ss 0 (pos 0) ∷ []

@@ -14,7 +14,7 @@ use Rattle.fields.specs.Fields.{fields, fieldAt}
 use Rattle.fields.specs.Numbers.{valueFrom, digitsOf, unsignedOf, longNumberOf, numberOf}
 use Rattle.fields.specs.Day.{dayOf}
 use Rattle.reading.specs.Line.{isLetter, kindOf, directionOf, lotOf, headerOf, identifierOf, contractOf, sampleOf, endOf, lineOf}
-use Rattle.meaning.specs.Meaning.{these, present, sumOfAwards, belowLast, contractGrounds, sampleGrounds, endGrounds, grounds, after}
+use Rattle.meaning.specs.Meaning.{these, lacks, present, sumOfAwards, belowLast, contractGrounds, sampleGrounds, endGrounds, grounds, after}
 use Rattle.meaning.specs.Endings.{whole, ending, endingOf, AcceptedInput}
 use Rattle.meaning.proofs.Inputs.{accepted-input}
 use Rattle.explain.specs.Sharpest.{sharpest, sharpInput}
@@ -25,7 +25,7 @@ unfolding sharpInput sharpest flatten each
     powerInRange identifierByte identifierBytes wellFormed sameBytes awardInRange priceInRange secondsKnown intervalOf headerGrounds
     linesOf fields fieldAt valueFrom digitsOf unsignedOf longNumberOf numberOf dayOf
     isLetter kindOf directionOf lotOf headerOf identifierOf contractOf sampleOf endOf lineOf
-    present sumOfAwards belowLast contractGrounds sampleGrounds endGrounds grounds after ending endingOf
+    lacks present sumOfAwards belowLast contractGrounds sampleGrounds endGrounds grounds after ending endingOf
 sharp-ends = refl
 
 pub sharp-accepted : AcceptedInput sharpInput sharpest

@@ -33,7 +33,7 @@ use Rattle.claims.specs.Powers.{Samples, next, powerAt, powersOf, ogasOver, uga
 use Rattle.claims.proofs.PowerLaws.{power-is}
 use Rattle.claims.proofs.Joining.{along}
 use Rattle.claims.proofs.Rests.{awarded}
-use Rattle.meaning.specs.Given.{Given, intervalIn, lotIn, startIn, secondsIn, setpointIn, actualIn, quarterSamples, samplesBefore, setpointsIn, termsIn, powersIn, linesIn, poolIn}
+use Rattle.meaning.specs.Given.{Given, intervalIn, lotIn, secondsIn, setpointIn, actualIn, quarterSamples, samplesBefore, setpointsIn, termsIn, powersIn, linesIn, poolIn}
 use Rattle.meaning.proofs.Bounds.{samples-told}
 use Rattle.explain.specs.Explained.{Column, SO, IS, AK, onLine, onPool, restOn}
 use Rattle.explain.proofs.Added.{quantityOf, lines-exact, pool-exact, rest-exact}
@@ -96,7 +96,7 @@ module _ (c : Column) (d : Direction) (i : Interval) (lot : ℕ) (start : Start)
 module _ (c : Column) (d : Direction) (g : Given) (q : ℕ) (e : each actualIn (quarterSamples g q) ≡ setpointsIn g q) where
   steady-powers : powersIn d g q (quantityOf c) ≡ powersIn d g q Setpoint
   steady-powers =
-      rw (samples-told g q, e) (same-powers c d (intervalIn g) (lotIn g) (startIn g) (seriesAfter [] (each setpointIn (samplesBefore g q))) (setpointsIn g q))
+      rw (samples-told g q, e) (same-powers c d (intervalIn g) (lotIn g) (g .start) (seriesAfter [] (each setpointIn (samplesBefore g q))) (setpointsIn g q))
 
   pub steady-pool : onPool c (poolIn d g q) ≡ onPool SO (poolIn d g q)
   unfolding poolIn

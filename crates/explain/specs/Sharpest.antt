@@ -11,6 +11,7 @@ use Rattle.vocabulary.specs.declared.direction.Direction.{Direction}
 use Rattle.vocabulary.specs.declared.direction.Direction.the-variants.{Positive, Negative}
 use Rattle.vocabulary.specs.declared.header.Lot.the-variants.{Blank}
 use Rattle.vocabulary.specs.declared.sample.Sample.{Sample}
+use Rattle.channel.specs.Start.{fresh}
 use Rattle.meaning.specs.Given.{Deal, Given, linesIn, poolIn}
 use Rattle.meaning.specs.Endings.{AcceptedInput}
 use Rattle.explain.specs.Explained.{Column, onLine, onPool, restOn, addedUp, difference}
@@ -37,6 +38,7 @@ unfoldable pub sharpest : Given
 sharpest =
     record {
       header = record { date = record { year = 2017; month = 2; day = 20 }; interval = pos 4; lot = Blank; quarters = pos 4 };
+      start = fresh;
       positives = each (smallDeal 80) letters;
       negatives = each (smallDeal 78) letters;
       samples =

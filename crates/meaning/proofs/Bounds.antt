@@ -18,7 +18,7 @@ use Rattle.series.specs.Scan.{each}
 use Rattle.series.proofs.Scanned.{each-length}
 use Rattle.series.proofs.Each.{each-join}
 use Rattle.claims.specs.Powers.{Samples, samples, ogasOver, ugasOver, samplesOver}
-use Rattle.meaning.specs.Given.{Given, intervalIn, lotIn, startIn, perQuarter, setpointIn, actualIn, quarterSamples, samplesBefore, pastIn, boundsFrom, setpointsIn, samplesIn}
+use Rattle.meaning.specs.Given.{Given, intervalIn, lotIn, perQuarter, setpointIn, actualIn, quarterSamples, samplesBefore, pastIn, boundsFrom, setpointsIn, samplesIn}
 
 -- ---- one bound along some setpoints: `over` goes by the series so far, `of` and `at` are the bound, told backward and forward
 
@@ -50,7 +50,7 @@ module _ (i : Interval) (lot : ℕ) (start : Start) where
 
 abbrev pub toldSamples : Given → ℕ → Samples
 toldSamples g q =
-    samplesOver (intervalIn g) (lotIn g) (startIn g) (seriesAfter [] (each setpointIn (samplesBefore g q))) (setpointsIn g q) (each actualIn (quarterSamples g q))
+    samplesOver (intervalIn g) (lotIn g) (g .start) (seriesAfter [] (each setpointIn (samplesBefore g q))) (setpointsIn g q) (each actualIn (quarterSamples g q))
 
 module _ (i : Interval) (lot : ℕ) (start : Start) where
   ogas-none : (h : List ℤ) → ogasOver i lot start h [] ≡ []
@@ -112,5 +112,5 @@ module _ (g : Given) (q : ℕ) where
   pub samples-told : samplesIn g q ≡ toldSamples g q
   samples-told =
       begins
-      ∙ ap (λ (ss : List ℤ). here (pastBy (intervalIn g) (lotIn g) (startIn g) ss) (length earlier)) parted
-      ∙ rw (ogas-forward (intervalIn g) (lotIn g) (startIn g) earlier (setpointsIn g q) after, ugas-forward (intervalIn g) (lotIn g) (startIn g) earlier (setpointsIn g q) after)
+      ∙ ap (λ (ss : List ℤ). here (pastBy (intervalIn g) (lotIn g) (g .start) ss) (length earlier)) parted
+      ∙ rw (ogas-forward (intervalIn g) (lotIn g) (g .start) earlier (setpointsIn g q) after, ugas-forward (intervalIn g) (lotIn g) (g .start) earlier (setpointsIn g q) after)

@@ -1,12 +1,11 @@
 // The samples of the quarter hour at hand, kept until it is taken.
-use arithmetic::whole::within;
 use vocabulary::interval::Interval;
 use vocabulary::refusal::Refusal;
 use vocabulary::sample::Sample;
+use vocabulary::sample::in_range;
 ghost use mathlib.Core.Path.{_≡_};
 ghost use Prim.Native.Nat.{_≤_, _<_};
 ghost use Rattle.vocabulary.specs.Interval.{windowsOf};
-ghost use Rattle.vocabulary.specs.Sample.{powerInRange};
 ghost use Rattle.records.specs.Tape.{longer, Admitted, samplesIn, oneRecorded, recordedOf};
 
 // Only the first `filled` places count.
@@ -20,12 +19,6 @@ pub struct Tape {
 pub struct Recorded {
     pub tape: Tape,
     pub refusal: Refusal,
-}
-
-fn in_range(power: i32) -> bool
-    ensures { λ r. ⌜ r ≡ powerInRange power ⌝ }
-{
-    within(-2_000_000, power, 2_000_000)
 }
 
 // Why a sample is refused: a quarter hour waits, or all are taken; or a power is out of range.

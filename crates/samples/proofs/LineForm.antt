@@ -12,8 +12,10 @@ use lib.IntN.{ℤ}
 use Rattle.vocabulary.specs.declared.sample.Sample.{Sample}
 use Rattle.fields.specs.Fields.{fields, fieldAt}
 use Rattle.fields.proofs.FieldLaws.{fields-tab, fields-other, fields-none, numbered, counted}
-use Rattle.fields.specs.Numbers.{valueFrom, unsignedOf, numberOf}
+use Rattle.fields.specs.Numbers.{valueFrom, unsignedOf, longNumberOf, numberOf}
 use Rattle.fields.specs.declared.number.Digits.the-variants as F
+use Rattle.fields.specs.declared.number.LongNumber.{LongNumber}
+use Rattle.fields.specs.declared.number.LongNumber.the-variants as Long
 use Rattle.fields.specs.declared.number.Number.{Number}
 use Rattle.fields.specs.declared.number.Number.the-variants as N
 use Rattle.fields.specs.declared.day.Day.{Day}
@@ -21,7 +23,9 @@ use Rattle.fields.specs.declared.day.Day.the-variants as D
 use Rattle.lines.specs.Lines.{onFirst, linesOf}
 use Rattle.lines.proofs.LineLaws.{NoLf, none, another, Written, last, ended, read-back, written}
 use Rattle.fields.specs.Day.{dayOf}
-use Rattle.reading.specs.Line.{isLetter, kindOf, directionOf, lotOf, headerFields, contractFields, sampleFields, headerOf, contractOf, sampleOf, endOf, byKind, lineOf}
+use Rattle.reading.specs.Line.{isLetter, kindOf, directionOf, lotOf, byKind, lineOf}
+use Rattle.reading.specs.Line.{headerFields, boundsFields, setpointFields, contractFields, sampleFields}
+use Rattle.reading.specs.Line.{headerOf, boundsOf, setpointOf, contractOf, sampleOf, endOf}
 use Rattle.reading.specs.declared.Kind.{Kind}
 use Rattle.reading.specs.declared.Kind.the-variants as K
 use Rattle.reading.specs.declared.DirectionField.{DirectionField}
@@ -210,7 +214,9 @@ kind-letter f e =
     letter f 83
     (kind-sample (isLetter 83 f) _ (kind-end (isLetter 69 f))
     (kind-passed (isLetter 67 f) _ _ (λ q. (let z : _≡_ {A = ℕ} 0 1 = cc in omega arith))
-    (kind-passed (isLetter 68 f) _ _ (λ q. (let z : _≡_ {A = ℕ} 0 1 = cc in omega arith)) e)))
+    (kind-passed (isLetter 66 f) _ _ (λ q. (let z : _≡_ {A = ℕ} 0 1 = cc in omega arith))
+    (kind-passed (isLetter 79 f) _ _ (λ q. (let z : _≡_ {A = ℕ} 0 1 = cc in omega arith))
+    (kind-passed (isLetter 68 f) _ _ (λ q. (let z : _≡_ {A = ℕ} 0 1 = cc in omega arith)) e)))))
 
 -- no other kind of line says a sample
 no-header : (d : Day) (i : Number) (l : LotField) (q : Number) (s : Sample) → headerFields d i l q ≡ L.Sample s → ⊥
@@ -219,6 +225,15 @@ no-header (D.Of d) (N.Value i) (LF.Of l) N.Malformed s e = let z : _≡_ {A = �
 no-header (D.Of d) (N.Value i) LF.Malformed q s e = let z : _≡_ {A = ℕ} 0 1 = cc in omega arith
 no-header (D.Of d) N.Malformed l q s e = let z : _≡_ {A = ℕ} 0 1 = cc in omega arith
 no-header D.Malformed i l q s e = let z : _≡_ {A = ℕ} 0 1 = cc in omega arith
+
+no-bounds : (o u : LongNumber) (s : Sample) → boundsFields o u ≡ L.Sample s → ⊥
+no-bounds (Long.Value o) (Long.Value u) s e = let z : _≡_ {A = ℕ} 0 1 = cc in omega arith
+no-bounds (Long.Value o) Long.Malformed s e = let z : _≡_ {A = ℕ} 0 1 = cc in omega arith
+no-bounds Long.Malformed u s e = let z : _≡_ {A = ℕ} 0 1 = cc in omega arith
+
+no-setpoint : (b : Number) (s : Sample) → setpointFields b ≡ L.Sample s → ⊥
+no-setpoint (N.Value b) s e = let z : _≡_ {A = ℕ} 0 1 = cc in omega arith
+no-setpoint N.Malformed s e = let z : _≡_ {A = ℕ} 0 1 = cc in omega arith
 
 no-contract : (d : DirectionField) (a p : Number) (s : Sample) → contractFields d a p ≡ L.Sample s → ⊥
 no-contract (DF.Of d) (N.Value a) (N.Value p) s e = let z : _≡_ {A = ℕ} 0 1 = cc in omega arith
@@ -242,11 +257,14 @@ two (N.Value x) N.Malformed s e = absurd (let z : _≡_ {A = ℕ} 0 1 = cc in (o
 two N.Malformed y s e = absurd (let z : _≡_ {A = ℕ} 0 1 = cc in (omega arith))
 
 by-kind : (k : Kind) (fs : List (List ℕ)) (s : Sample) → byKind k fs ≡ L.Sample s → (k ≡ K.Sample) × (sampleOf fs ≡ L.Sample s)
-unfolding headerOf contractOf endOf
+unfolding headerOf boundsOf setpointOf contractOf endOf
 by-kind K.Header fs s e =
     absurd
     (no-header (dayOf (fieldAt 1 fs)) (numberOf (fieldAt 2 fs)) (lotOf (fieldAt 3 fs)) (numberOf (fieldAt 4 fs)) s
     (of-fields (eqb (length fs) 5) _ s e .1))
+by-kind K.Bounds fs s e =
+    absurd (no-bounds (longNumberOf 11 (fieldAt 1 fs)) (longNumberOf 11 (fieldAt 2 fs)) s (of-fields (eqb (length fs) 3) _ s e .1))
+by-kind K.Setpoint fs s e = absurd (no-setpoint (numberOf (fieldAt 1 fs)) s (of-fields (eqb (length fs) 2) _ s e .1))
 by-kind K.Contract fs s e =
     absurd
     (no-contract (directionOf (fieldAt 1 fs)) (numberOf (fieldAt 3 fs)) (numberOf (fieldAt 4 fs)) s
@@ -291,6 +309,8 @@ in-range to s row false c p q e = absurd (let z : _≡_ {A = ℕ} 0 1 = cc in (o
 ranged : (to : ℕ) (l : Line) (row : Row) → rowOf to l ≡ R.Of row → Ranged to l row
 ranged to (L.Sample s) row e = in-range to s row _ _ refl refl e
 ranged to (L.Header h) row e = absurd (let z : _≡_ {A = ℕ} 0 1 = cc in (omega arith))
+ranged to (L.Bounds bounds) row e = absurd (let z : _≡_ {A = ℕ} 0 1 = cc in (omega arith))
+ranged to (L.Setpoint setpoint) row e = absurd (let z : _≡_ {A = ℕ} 0 1 = cc in (omega arith))
 ranged to (L.Contract c) row e = absurd (let z : _≡_ {A = ℕ} 0 1 = cc in (omega arith))
 ranged to L.End row e = absurd (let z : _≡_ {A = ℕ} 0 1 = cc in (omega arith))
 ranged to L.Malformed row e = absurd (let z : _≡_ {A = ℕ} 0 1 = cc in (omega arith))

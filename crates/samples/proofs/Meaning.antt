@@ -69,6 +69,8 @@ one-at-most (L.Sample s) rest = by-range (powerInRange (s .setpoint)) (powerInRa
     by-range true false = omega arith
     by-range false c = omega arith
 one-at-most (L.Header h) rest = omega arith
+one-at-most (L.Bounds bounds) rest = omega arith
+one-at-most (L.Setpoint setpoint) rest = omega arith
 one-at-most (L.Contract c) rest = omega arith
 one-at-most L.End rest = omega arith
 one-at-most L.Malformed rest = omega arith
@@ -96,6 +98,8 @@ given-in s t ss more false c p q e = absurd (let z : _≡_ {A = ℕ} 0 1 = cc in
 given : (l : Line) (more ss : List Sample) (t : Sample) → onSample l more ≡ t ∷ ss → Given l t × (ss ≡ more)
 given (L.Sample s) more ss t e = given-in s t ss more (powerInRange (s .setpoint)) (powerInRange (s .actual)) refl refl e
 given (L.Header h) more ss t e = absurd (let z : _≡_ {A = ℕ} 0 1 = cc in (omega arith))
+given (L.Bounds bounds) more ss t e = absurd (let z : _≡_ {A = ℕ} 0 1 = cc in (omega arith))
+given (L.Setpoint setpoint) more ss t e = absurd (let z : _≡_ {A = ℕ} 0 1 = cc in (omega arith))
 given (L.Contract c) more ss t e = absurd (let z : _≡_ {A = ℕ} 0 1 = cc in (omega arith))
 given L.End more ss t e = absurd (let z : _≡_ {A = ℕ} 0 1 = cc in (omega arith))
 given L.Malformed more ss t e = absurd (let z : _≡_ {A = ℕ} 0 1 = cc in (omega arith))
@@ -124,6 +128,8 @@ stops (suc n) (line ∷ ls) [] e h (suc m) = nothing (lineOf line) (frontSamples
     nothing : (l : Line) (more other : List Sample) → onSample l more ≡ [] → onSample l other ≡ []
     nothing (L.Sample s) more other e = nothing-in s more other (powerInRange (s .setpoint) && powerInRange (s .actual)) e
     nothing (L.Header h) more other e = refl
+    nothing (L.Bounds bounds) more other e = refl
+    nothing (L.Setpoint setpoint) more other e = refl
     nothing (L.Contract c) more other e = refl
     nothing L.End more other e = refl
     nothing L.Malformed more other e = refl

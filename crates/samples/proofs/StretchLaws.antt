@@ -44,6 +44,8 @@ passed-over to s more false e = refl
 other-line : (to : ℕ) (l : Line) (more : List Sample) → rowOf to l ≡ R.Other → onSample l more ≡ []
 other-line to (L.Sample s) more e = passed-over to s more (powerInRange (s .setpoint) && powerInRange (s .actual)) e
 other-line to (L.Header h) more e = refl
+other-line to (L.Bounds bounds) more e = refl
+other-line to (L.Setpoint setpoint) more e = refl
 other-line to (L.Contract c) more e = refl
 other-line to L.End more e = refl
 other-line to L.Malformed more e = refl

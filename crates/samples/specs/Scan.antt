@@ -98,6 +98,8 @@ abbrev pub rowOf : ℕ → Line → First
 rowOf to (L.Sample s) =
     cond (powerInRange (s .setpoint) && powerInRange (s .actual)) (R.Of (record { setpoint = s .setpoint; actual = s .actual; to = to })) R.Other
 rowOf to (L.Header h) = R.Other
+rowOf to (L.Bounds b) = R.Other
+rowOf to (L.Setpoint s) = R.Other
 rowOf to (L.Contract c) = R.Other
 rowOf to L.End = R.Other
 rowOf to L.Malformed = R.Other

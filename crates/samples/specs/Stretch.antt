@@ -19,6 +19,8 @@ use Rattle.samples.specs.declared.Stretch.{Stretch}
 abbrev pub onSample : Line → List Sample → List Sample
 onSample (L.Sample s) more = cond (powerInRange (s .setpoint) && powerInRange (s .actual)) (s ∷ more) []
 onSample (L.Header h) more = []
+onSample (L.Bounds b) more = []
+onSample (L.Setpoint s) more = []
 onSample (L.Contract c) more = []
 onSample L.End more = []
 onSample L.Malformed more = []

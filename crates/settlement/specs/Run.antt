@@ -1,7 +1,8 @@
 -- The run in its parts, and what each call makes of it: a call changes the parts it is about. A refusal hands the run back equal to what came in.
 use Prim.Native.Nat.{ℕ}
-use mathlib.Core.Bool.{cond, not}
+use mathlib.Core.Bool.{Bool, cond, not, _&&_}
 use mathlib.Core.List.{List}
+use lib.Dec.{eqb}
 use lib.IntN.{ℤ}
 use Rattle.arithmetic.specs.Whole.{up}
 use Rattle.vocabulary.specs.declared.refusal.Refusal.{Refusal}
@@ -11,7 +12,8 @@ use Rattle.vocabulary.specs.declared.interval.Interval.{Interval}
 use Rattle.vocabulary.specs.declared.interval.Interval.the-variants.{One}
 use Rattle.vocabulary.specs.declared.contract.Contract.{Contract}
 use Rattle.vocabulary.specs.declared.header.Header.{Header}
-use Rattle.channel.specs.State.{newOf}
+use Rattle.vocabulary.specs.declared.acceptance.Bounds.{Bounds}
+use Rattle.channel.specs.State.{newOf, recalledOf, boundedOf}
 use Rattle.contracts.specs.Books.{noBooks, booksRefusal, withContractIn}
 use Rattle.quarter.specs.Blank.{noSheets}
 use Rattle.claims.specs.Claims.{samplesOf}
@@ -28,12 +30,13 @@ use Rattle.settlement.specs.declared.run.Ended.{Ended}
 use Rattle.settlement.specs.declared.run.Heading.{Heading}
 use Rattle.settlement.specs.Calls.{intervalOf, openRefusal, endRefusal, unbegun, takeRefusal}
 use Rattle.settlement.specs.Plan.{lotMeant, planOf}
+use Rattle.settlement.specs.Load.{noLoad, begunWith, oneFewer, boundsRefusal, setpointRefusal, orLacking}
 
 -- ---- opening
 
 -- a run with nothing in it yet
 unfoldable pub freshRun : Plan → Interval → ℕ → Run
-freshRun plan interval lot = record { plan = plan; books = noBooks; past = newOf interval lot; tape = noTape; account = noAccount }
+freshRun plan interval lot = record { plan = plan; books = noBooks; past = newOf interval lot; load = noLoad; tape = noTape; account = noAccount }
 
 -- what stands where an opening gives no run: a run of no quarter hour
 unfoldable pub noRun : Run
@@ -50,16 +53,56 @@ openedOf h = record { run = cond (accepted (openRefusal h)) (runOf h) noRun; ref
 abbrev pub answerOf : Refusal → Run → Run → Answer
 answerOf refusal next run = record { run = cond (accepted refusal) next run; refusal = refusal }
 
+-- ---- a block: the past and the load
+
+-- neither a contract nor a sample came yet, in a run that takes some
+unfoldable pub untouched : Run → Bool
+untouched run =
+    unbegun (run .tape .filled) (run .account .taken) (run .plan .quarters) && eqb (run .books .positive .count) 0 && eqb (run .books .negative .count) 0
+
+-- its bounds, directly after the opening
+unfoldable pub boundsGround : Run → Bounds → Refusal
+boundsGround run bounds = boundsRefusal (untouched run) (run .load) bounds
+
+unfoldable pub withBounds : Run → Bounds → Run
+withBounds run bounds =
+    record { plan = run .plan; books = run .books; past = run .past; load = begunWith (run .past .interval) bounds; tape = run .tape; account = run .account }
+
+unfoldable pub withBoundsOf : Run → Bounds → Answer
+withBoundsOf run bounds = answerOf (boundsGround run bounds) (withBounds run bounds) run
+
+-- then its past setpoints, oldest first: the channel recalls each, and holds the block's bounds
+unfoldable pub setpointGround : Run → ℤ → Refusal
+setpointGround run s = setpointRefusal (untouched run) (run .load) s
+
+unfoldable pub withSetpoint : Run → ℤ → Run
+withSetpoint run s =
+    record {
+      plan = run .plan;
+      books = run .books;
+      past = boundedOf (recalledOf (run .past) s) (run .load .bounds .oga .0) (run .load .bounds .uga .0);
+      load = oneFewer (run .load);
+      tape = run .tape;
+      account = run .account;
+    }
+
+unfoldable pub withSetpointOf : Run → ℤ → Answer
+withSetpointOf run s = answerOf (setpointGround run s) (withSetpoint run s) run
+
 -- ---- a contract: the books
 
 -- why a run refuses it: 1 first, then 6 to 12
-unfoldable pub contractGround : Run → Contract → List ℕ → Refusal
-contractGround run c identifier =
+unfoldable pub contractWrong : Run → Contract → List ℕ → Refusal
+contractWrong run c identifier =
     cond (not (unbegun (run .tape .filled) (run .account .taken) (run .plan .quarters))) WrongMoment (booksRefusal (run .books) c identifier)
+
+-- and then 17 in a block that lacks setpoints
+unfoldable pub contractGround : Run → Contract → List ℕ → Refusal
+contractGround run c identifier = orLacking (run .load) (contractWrong run c identifier)
 
 unfoldable pub contracted : Run → Contract → List ℕ → Run
 contracted run c identifier =
-    record { plan = run .plan; books = withContractIn (run .books) c identifier; past = run .past; tape = run .tape; account = run .account }
+    record { plan = run .plan; books = withContractIn (run .books) c identifier; past = run .past; load = run .load; tape = run .tape; account = run .account }
 
 unfoldable pub contractedOf : Run → Contract → List ℕ → Answer
 contractedOf run c identifier = answerOf (contractGround run c identifier) (contracted run c identifier) run
@@ -67,11 +110,12 @@ contractedOf run c identifier = answerOf (contractGround run c identifier) (cont
 -- ---- a sample: the tape
 
 unfoldable pub sampleGround : Run → ℤ → ℤ → Refusal
-sampleGround run = sampleRefusal (samplesOf (run .past)) (run .tape .filled) (run .account .taken) (run .plan .quarters)
+sampleGround run setpoint actual =
+    orLacking (run .load) (sampleRefusal (samplesOf (run .past)) (run .tape .filled) (run .account .taken) (run .plan .quarters) setpoint actual)
 
 unfoldable pub sampled : Run → ℤ → ℤ → Run
 sampled run setpoint actual =
-    record { plan = run .plan; books = run .books; past = run .past; tape = longer (run .tape) setpoint actual; account = run .account }
+    record { plan = run .plan; books = run .books; past = run .past; load = run .load; tape = longer (run .tape) setpoint actual; account = run .account }
 
 unfoldable pub sampledOf : Run → ℤ → ℤ → Answer
 sampledOf run setpoint actual = answerOf (sampleGround run setpoint actual) (sampled run setpoint actual) run
@@ -85,7 +129,14 @@ quarterIn run = quarterHeld (run .past) (run .tape .setpoints) (run .tape .actua
 -- the run after a quarter hour
 unfoldable pub settledOf : Run → Settled → Run
 settledOf run quarter =
-    record { plan = run .plan; books = run .books; past = quarter .channel; tape = rewound (run .tape); account = withQuarter (run .account) (quarter .sheets) }
+    record {
+      plan = run .plan;
+      books = run .books;
+      past = quarter .channel;
+      load = run .load;
+      tape = rewound (run .tape);
+      account = withQuarter (run .account) (quarter .sheets);
+    }
 
 unfoldable pub takeGround : Run → Refusal
 takeGround run = takeRefusal (samplesOf (run .past)) (run .tape .filled) (run .account .taken) (run .plan .quarters)
@@ -110,6 +161,7 @@ endedOf run =
       quarters = run .account .taken;
       fees = run .account .fees;
       penalties = run .account .penalties;
+      past = run .past;
     }
 
 -- date, interval and lot used

@@ -5,7 +5,9 @@ use arithmetic::whole::within;
 use vocabulary::header::Header;
 use vocabulary::refusal::Refusal;
 ghost use mathlib.Core.Path.{_≡_};
-ghost use Prim.Native.Nat.{_<_};
+ghost use mathlib.Core.Bool.{cond};
+ghost use Prim.Native.Nat.{_<_, _-_};
+ghost use lib.Dec.{eqb, leb};
 ghost use Rattle.vocabulary.specs.Refusals.{numberOf};
 ghost use Rattle.settlement.specs.Calls.{secondsKnown, openRefusal, endRefusal, unbegun, takeRefusal};
 
@@ -65,6 +67,22 @@ pub(crate) fn take_refusal(samples: usize, filled: usize, taken: u8, quarters: u
         return Refusal::WrongMoment;
     }
     Refusal::None
+}
+
+// How many samples a quarter hour still takes: none while a block lacks setpoints, and none after the last quarter hour.
+pub(crate) fn places(left: usize, samples: usize, filled: usize, taken: u8, quarters: u8) -> usize
+    ensures { λ r. ⌜ r ≡ cond (eqb left 0) (cond (leb quarters taken) 0 (samples - filled)) 0 ⌝ }
+{
+    if left != 0 {
+        return 0;
+    }
+    if taken >= quarters {
+        return 0;
+    }
+    if samples <= filled {
+        return 0;
+    }
+    samples - filled
 }
 
 pub(crate) fn end_refusal(taken: u8, quarters: u8) -> Refusal

@@ -2,7 +2,11 @@
 use crate::grounds::before_samples;
 use crate::grounds::end_refusal;
 use crate::grounds::open_refusal;
+use crate::grounds::places;
 use crate::grounds::take_refusal;
+use crate::load::Load;
+use crate::load::begun_with;
+use crate::load::no_load;
 use crate::plan::Plan;
 use crate::plan::interval_of;
 use crate::plan::lot_meant;
@@ -19,7 +23,9 @@ use quarter::sheet::Sheets;
 use quarter::sheet::no_sheets;
 use records::account::Account;
 use records::tape::Tape;
+use vocabulary::acceptance::Bounds;
 use vocabulary::contract::Contract;
+use vocabulary::direction::Direction;
 use vocabulary::header::Header;
 use vocabulary::interval::Interval;
 use vocabulary::refusal::Refusal;
@@ -29,13 +35,15 @@ ghost use Prim.Native.Nat.{_<_};
 ghost use Rattle.records.specs.Account.{noAccount};
 ghost use Rattle.records.specs.Tape.{noTape, samplesIn};
 ghost use Rattle.settlement.specs.Many.{roomOf, manyOf};
-ghost use Rattle.settlement.specs.Run.{freshRun, noRun, runOf, openedOf, contractGround, contractedOf, sampledOf, quarterIn, settledOf, takenOf, endedOf, headingOf};
+ghost use Rattle.settlement.specs.Run.{freshRun, noRun, runOf, openedOf, untouched, withSetpoint, withBoundsOf, withSetpointOf, contractWrong, contractedOf, sampledOf, quarterIn, settledOf, takenOf, endedOf, headingOf};
 
-// The past is the channel as it stands where the quarter hour at hand began; the tape has that quarter hour's samples.
+// The past is the channel as it stands where the quarter hour at hand began, and the load tells how much of a block it still lacks; the tape has that
+// quarter hour's samples.
 pub struct Run {
     plan: Plan,
     books: Books,
     past: Channel,
+    load: Load,
     tape: Tape,
     account: Account,
 }
@@ -60,13 +68,14 @@ pub struct Taken {
     pub sheets: Sheets,
 }
 
-// What ending answers: the quarter hours taken, and the sums of their fees and penalties.
+// What ending answers: the quarter hours taken, the sums of their fees and penalties, and the channel, whose block the next run may start from.
 pub struct Ended {
     pub run: Run,
     pub refusal: Refusal,
     pub quarters: u8,
     pub fees: Cents,
     pub penalties: Cents,
+    pub past: Channel,
 }
 
 // What a sheet's head says: the day, the interval and the lot that was used.
@@ -106,12 +115,14 @@ fn fresh(plan: Plan, interval: Interval, lot: u32) -> Run
 {
     let books = Books::new();
     let past = Channel::new(interval, lot);
+    let load = no_load();
     let tape = no_tape();
     let account = no_account();
     Run {
         plan: plan,
         books: books,
         past: past,
+        load: load,
         tape: tape,
         account: account,
     }
@@ -168,9 +179,71 @@ impl Run {
         all
     }
 
-    // Why a contract is refused: the moment, then what the lists of both directions say.
-    fn contract_refusal(self, contract: Contract, identifier: &[u8]) -> Refusal
-        ensures { λ r. ⌜ r ≡ contractGround self contract (now (identifier .entry)) ⌝ }
+    // Whether neither a contract nor a sample came yet, in a run that takes some.
+    fn is_untouched(self) -> bool
+        ensures { λ r. ⌜ r ≡ untouched self ⌝ }
+    {
+        if !before_samples(self.tape.filled, self.account.taken, self.plan.quarters) {
+            return false;
+        }
+        let books = self.books;
+        if books.book(Direction::Positive).count() != 0 {
+            return false;
+        }
+        books.book(Direction::Negative).count() == 0
+    }
+
+    // A block to start from begins with its bounds, directly after the opening.
+    pub fn bounds(mut self, bounds: Bounds) -> Answer
+        ensures { λ r. ⌜ r ≡ withBoundsOf self bounds ⌝ }
+    {
+        let load = self.load;
+        let refusal = load.bounds_refusal(self.is_untouched(), bounds);
+        if refusal.number() == 0 {
+            let past = self.past;
+            self.load = begun_with(past.interval(), bounds);
+        }
+        Answer {
+            run: self,
+            refusal: refusal,
+        }
+    }
+
+    // With a past setpoint more: the channel recalls it, and holds the block's bounds.
+    fn recalling(mut self, setpoint: i32) -> Run
+        ensures { λ r. ⌜ r ≡ withSetpoint self setpoint ⌝ }
+    {
+        let load = self.load;
+        let bounds = load.bounds;
+        let past = self.past;
+        let recalled = past.recalled(setpoint);
+        let bounded = recalled.bounded(bounds.oga, bounds.uga);
+        self.past = bounded;
+        self.load = load.one_fewer();
+        self
+    }
+
+    // Its past setpoints follow, oldest first.
+    pub fn setpoint(self, setpoint: i32) -> Answer
+        ensures { λ r. ⌜ r ≡ withSetpointOf self setpoint ⌝ }
+    {
+        let load = self.load;
+        let refusal = load.setpoint_refusal(self.is_untouched(), setpoint);
+        if refusal.number() != 0 {
+            return Answer {
+                run: self,
+                refusal: refusal,
+            };
+        }
+        Answer {
+            run: self.recalling(setpoint),
+            refusal: refusal,
+        }
+    }
+
+    // What is wrong with a contract but for a block: the moment, then what the lists of both directions say.
+    fn contract_wrong(self, contract: Contract, identifier: &[u8]) -> Refusal
+        ensures { λ r. ⌜ r ≡ contractWrong self contract (now (identifier .entry)) ⌝ }
     {
         if !before_samples(self.tape.filled, self.account.taken, self.plan.quarters) {
             return Refusal::WrongMoment;
@@ -183,7 +256,8 @@ impl Run {
     pub fn contract(mut self, contract: Contract, identifier: &[u8]) -> Answer
         ensures { λ r. ⌜ r ≡ contractedOf self contract (now (identifier .entry)) ⌝ }
     {
-        let refusal = self.contract_refusal(contract, identifier);
+        let load = self.load;
+        let refusal = load.or_lacking(self.contract_wrong(contract, identifier));
         if refusal.number() == 0 {
             let books = self.books;
             let longer = books.with(contract, identifier);
@@ -207,9 +281,13 @@ impl Run {
             self.plan.quarters,
             sample,
         );
-        let refusal = recorded.refusal;
-        let longer = recorded.tape;
-        self.tape = longer;
+        let ground = recorded.refusal;
+        let load = self.load;
+        let refusal = load.or_lacking(ground);
+        if refusal.number() == 0 {
+            let longer = recorded.tape;
+            self.tape = longer;
+        }
         Answer {
             run: self,
             refusal: refusal,
@@ -278,12 +356,14 @@ impl Run {
         let fees = account.fees;
         let penalties = account.penalties;
         let refusal = end_refusal(account.taken, self.plan.quarters);
+        let past = self.past;
         Ended {
             run: self,
             refusal: refusal,
             quarters: account.taken,
             fees: fees,
             penalties: penalties,
+            past: past,
         }
     }
 
@@ -307,24 +387,47 @@ impl Run {
     pub fn room(self) -> usize
         ensures { λ r. ⌜ r ≡ roomOf self ⌝ }
     {
-        let plan = self.plan;
-        let account = self.account;
-        if plan.quarters <= account.taken {
-            return 0;
-        }
         let past = self.past;
         let samples = samples_of(past);
-        let tape = self.tape;
-        if samples <= tape.filled {
-            return 0;
+        places(
+            self.load.left,
+            samples,
+            self.tape.filled,
+            self.account.taken,
+            self.plan.quarters,
+        )
+    }
+
+    // While a block lacks setpoints the first sample is refused, and no other is looked at.
+    fn first_sample(self, setpoints: &[i32], actuals: &[i32]) -> Answer
+        requires { ⌜ 0 < self .load .left ⌝ }
+        ensures { λ r. ⌜ r ≡ manyOf self (samplesIn (now (setpoints .entry)) (now (actuals .entry))) ⌝ }
+    {
+        if setpoints.len() == 0 {
+            return Answer {
+                run: self,
+                refusal: Refusal::None,
+            };
         }
-        samples - tape.filled
+        if actuals.len() == 0 {
+            return Answer {
+                run: self,
+                refusal: Refusal::None,
+            };
+        }
+        let setpoint = setpoints[0];
+        let actual = actuals[0];
+        self.sample(Sample { setpoint, actual })
     }
 
     // Samples, one after the other, until one is refused: what `sample` makes of each, without handing the run on for each.
     pub fn samples(mut self, setpoints: &[i32], actuals: &[i32]) -> Answer
         ensures { λ r. ⌜ r ≡ manyOf self (samplesIn (now (setpoints .entry)) (now (actuals .entry))) ⌝ }
     {
+        let load = self.load;
+        if load.left != 0 {
+            return self.first_sample(setpoints, actuals);
+        }
         let past = self.past;
         let tape = self.tape;
         let recorded = tape.with_samples(

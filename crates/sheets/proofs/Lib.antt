@@ -1,4 +1,5 @@
 pub mod Fields
 pub mod Contracts
+pub mod Setpoints
 pub mod Printing
 pub mod Listing

@@ -2,11 +2,12 @@
 use Prim.Native.Nat.{ℕ}
 use mathlib.Core.Path.{_≡_, refl}
 use mathlib.Core.List.{[], _∷_}
-use lib.IntN.{pos}
+use lib.IntN.{pos, negsuc}
 use Rattle.arithmetic.specs.Energy.{kwh}
 use Rattle.print.specs.Decimal.{digitsIn, digits, numberText, twoDigits, fourDigits, dateText}
 use Rattle.print.specs.Fields.{tabbed}
 use Rattle.sheets.specs.Sheet.{lineText, headText, poolText, energiesOf, restFields, contractText, contractsText, sideText, quarterText, totalText, refusalText}
+use Rattle.sheets.specs.Sheet.{boundsText, setpointText, setpointsText, blockText}
 use Rattle.arithmetic.specs.declared.money.Cents.{Cents}
 use Rattle.vocabulary.specs.declared.interval.Interval.the-variants.{Four}
 use Rattle.contracts.specs.declared.book.Awarded.{Awarded}
@@ -56,7 +57,7 @@ positive =
 abbrev negative : Sheet
 negative = record { pool = poolOf 0 0 0 0 0 0 0 0; lines = []; count = 0 }
 
-pub listing-head : headText (record { year = 2017; month = 2; day = 20 }) Four 5000 ≡ 86 ∷ 9 ∷ 50 ∷ 9 ∷ 50 ∷ 48 ∷ 49 ∷ 55 ∷ 45 ∷ 48 ∷ 50 ∷ 45 ∷ 50 ∷ 48 ∷ 9 ∷ 52 ∷ 9 ∷ 53 ∷ 48 ∷ 48 ∷ 48 ∷ 10 ∷ []
+pub listing-head : headText (record { year = 2017; month = 2; day = 20 }) Four 5000 ≡ 86 ∷ 9 ∷ 51 ∷ 9 ∷ 50 ∷ 48 ∷ 49 ∷ 55 ∷ 45 ∷ 48 ∷ 50 ∷ 45 ∷ 50 ∷ 48 ∷ 9 ∷ 52 ∷ 9 ∷ 53 ∷ 48 ∷ 48 ∷ 48 ∷ 10 ∷ []
 unfolding headText lineText tabbed dateText fourDigits twoDigits digits digitsIn
 listing-head = refl
 
@@ -72,6 +73,12 @@ listing-quarter = refl
 pub listing-total : totalText 1 (cents 15404) (cents 0) ≡ 84 ∷ 9 ∷ 49 ∷ 9 ∷ 49 ∷ 53 ∷ 52 ∷ 48 ∷ 52 ∷ 9 ∷ 48 ∷ 10 ∷ []
 unfolding totalText lineText tabbed numberText digits digitsIn
 listing-total = refl
+
+-- a block, with two setpoints for short
+pub listing-block : blockText (record { oga = pos 5400; uga = negsuc 5399; setpoints = pos 1 ∷ negsuc 0 ∷ [] })
+    ≡ 79 ∷ 9 ∷ 53 ∷ 52 ∷ 48 ∷ 48 ∷ 9 ∷ 45 ∷ 53 ∷ 52 ∷ 48 ∷ 48 ∷ 10 ∷ 66 ∷ 9 ∷ 49 ∷ 10 ∷ 66 ∷ 9 ∷ 45 ∷ 49 ∷ 10 ∷ []
+unfolding blockText boundsText setpointsText setpointText lineText tabbed numberText digits digitsIn
+listing-block = refl
 
 -- empty input
 pub listing-refusal : refusalText 1 NoEnd ≡ 82 ∷ 9 ∷ 49 ∷ 9 ∷ 49 ∷ 53 ∷ 10 ∷ []

@@ -71,6 +71,8 @@ module _ (desk : Desk) (number : ℕ) (line : List ℕ) where
   first-placed : (said : Line) → unless desk number (early said) (servedTurn desk number line said) ≡ firstTurn desk number said
   unfolding firstTurn servedTurn
   first-placed (L.Header header) = refl
+  first-placed (L.Bounds bounds) = refl
+  first-placed (L.Setpoint setpoint) = refl
   first-placed (L.Contract contract) = refl
   first-placed (L.Sample sample) = refl
   first-placed L.End = refl
@@ -79,6 +81,8 @@ module _ (desk : Desk) (number : ℕ) (line : List ℕ) where
   next-placed : (said : Line) → unless desk number (late said) (servedTurn desk number line said) ≡ nextTurn desk number line said
   unfolding nextTurn servedTurn
   next-placed (L.Header header) = refl
+  next-placed (L.Bounds bounds) = refl
+  next-placed (L.Setpoint setpoint) = refl
   next-placed (L.Contract contract) = refl
   next-placed (L.Sample sample) = refl
   next-placed L.End = refl

@@ -8,16 +8,17 @@ use lib.IntN.{pos}
 use Rattle.vocabulary.specs.declared.refusal.Refusal.{Refusal}
 use Rattle.vocabulary.specs.declared.refusal.Refusal.the-variants.{WrongMoment, BadLine, NoEnd}
 use Rattle.vocabulary.specs.Refusals.{accepted}
-use Rattle.vocabulary.specs.declared.contract.Contract.{Contract}
 use Rattle.vocabulary.specs.declared.header.Header.{Header}
 use Rattle.vocabulary.specs.declared.header.Lot.the-variants.{Kw}
 use Rattle.vocabulary.specs.declared.sample.Sample.{Sample}
+use Rattle.channel.specs.State.{handedOn}
 use Rattle.settlement.specs.declared.run.Run.{Run}
+use Rattle.settlement.specs.declared.run.Answer.{Answer}
 use Rattle.settlement.specs.declared.run.Taken.{Taken}
 use Rattle.settlement.specs.declared.run.Heading.{Heading}
 use Rattle.settlement.specs.declared.run.Ended.{Ended}
-use Rattle.settlement.specs.Run.{openedOf, contractedOf, sampledOf, takenOf, endedOf, headingOf}
-use Rattle.sheets.specs.Sheet.{headText, quarterText, totalText, refusalText}
+use Rattle.settlement.specs.Run.{openedOf, withBoundsOf, withSetpointOf, contractedOf, sampledOf, takenOf, endedOf, headingOf}
+use Rattle.sheets.specs.Sheet.{headText, quarterText, closingText, refusalText}
 use Rattle.sheets.specs.Buffer.{bufferLength, printAnswer, printInto}
 use Rattle.sheets.specs.declared.Printed.{Printed}
 use Rattle.sheets.specs.declared.Printed.the-variants.{Length, TooShort}
@@ -63,10 +64,9 @@ openTurn desk number header =
     unless desk number (openedOf header .refusal)
     (record { desk = deskAt Open (openedOf header .run); text = headOf (headingOf (openedOf header .run)) })
 
-unfoldable pub contractTurn : Desk → ℕ → Contract → List ℕ → Turn
-contractTurn desk number contract identifier =
-    unless desk number (contractedOf (desk .run) contract identifier .refusal)
-    (quiet (deskAt Open (contractedOf (desk .run) contract identifier .run)))
+-- a line of a block, or a contract: what the run answered, and nothing is printed
+unfoldable pub answeredTurn : Desk → ℕ → Answer → Turn
+answeredTurn desk number answer = unless desk number (answer .refusal) (quiet (deskAt Open (answer .run)))
 
 -- Q and K, "printed when the last sample is in": with the contracts that the run had, and what was taken from it
 unfoldable pub takenText : Taken → List ℕ
@@ -93,18 +93,20 @@ roomAt Empty run = 0
 roomAt Open run = roomOf run
 roomAt Closed run = 0
 
--- T
-abbrev pub totalOf : Ended → List ℕ
-totalOf ended = totalText (ended .quarters) (ended .fees) (ended .penalties)
+-- T, and the block that the run hands on
+abbrev pub closingOf : Ended → List ℕ
+closingOf ended = closingText (ended .quarters) (ended .fees) (ended .penalties) (handedOn (ended .past))
 
 unfoldable pub endTurn : Desk → ℕ → Turn
 endTurn desk number =
     unless desk number (endedOf (desk .run) .refusal)
-    (record { desk = deskAt Closed (endedOf (desk .run) .run); text = totalOf (endedOf (desk .run)) })
+    (record { desk = deskAt Closed (endedOf (desk .run) .run); text = closingOf (endedOf (desk .run)) })
 
 -- "a malformed line is 14 and nothing further is looked at"; before the header, anything else is 1
 unfoldable pub firstTurn : Desk → ℕ → Line → Turn
 firstTurn desk number (L.Header header) = openTurn desk number header
+firstTurn desk number (L.Bounds bounds) = refusedTurn desk number WrongMoment
+firstTurn desk number (L.Setpoint setpoint) = refusedTurn desk number WrongMoment
 firstTurn desk number (L.Contract contract) = refusedTurn desk number WrongMoment
 firstTurn desk number (L.Sample sample) = refusedTurn desk number WrongMoment
 firstTurn desk number L.End = refusedTurn desk number WrongMoment
@@ -113,7 +115,9 @@ firstTurn desk number L.Malformed = refusedTurn desk number BadLine
 -- after it, a header is 1
 unfoldable pub nextTurn : Desk → ℕ → List ℕ → Line → Turn
 nextTurn desk number line (L.Header header) = refusedTurn desk number WrongMoment
-nextTurn desk number line (L.Contract contract) = contractTurn desk number contract (identifierOf line)
+nextTurn desk number line (L.Bounds bounds) = answeredTurn desk number (withBoundsOf (desk .run) bounds)
+nextTurn desk number line (L.Setpoint setpoint) = answeredTurn desk number (withSetpointOf (desk .run) setpoint)
+nextTurn desk number line (L.Contract contract) = answeredTurn desk number (contractedOf (desk .run) contract (identifierOf line))
 nextTurn desk number line (L.Sample sample) = sampleTurn desk number sample
 nextTurn desk number line L.End = endTurn desk number
 nextTurn desk number line L.Malformed = refusedTurn desk number BadLine

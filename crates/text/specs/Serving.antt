@@ -6,7 +6,7 @@ use lib.ListN.{length}
 use Rattle.vocabulary.specs.declared.refusal.Refusal.{Refusal}
 use Rattle.vocabulary.specs.declared.refusal.Refusal.the-variants.{None, WrongMoment, BadLine}
 use Rattle.settlement.specs.declared.run.Run.{Run}
-use Rattle.settlement.specs.Run.{headingOf}
+use Rattle.settlement.specs.Run.{withBoundsOf, withSetpointOf, contractedOf, headingOf}
 use Rattle.sheets.specs.Buffer.{bufferLength, printAnswer, printInto}
 use Rattle.sheets.specs.declared.Printed.{Printed}
 use Rattle.reading.specs.Line.{identifierOf}
@@ -16,11 +16,13 @@ use Rattle.text.specs.declared.desk.Stage.{Stage}
 use Rattle.text.specs.declared.desk.Stage.the-variants.{Empty, Open, Closed}
 use Rattle.text.specs.declared.desk.Desk.{Desk}
 use Rattle.text.specs.declared.desk.Told.{Told}
-use Rattle.text.specs.Desk.{Turn, deskAt, headOf, unless, refusedTurn, openTurn, contractTurn, sampleTurn, endTurn}
+use Rattle.text.specs.Desk.{Turn, deskAt, headOf, unless, refusedTurn, openTurn, answeredTurn, sampleTurn, endTurn}
 
 -- what is wrong with a line before the header
 abbrev pub early : Line → Refusal
 early (L.Header header) = None
+early (L.Bounds bounds) = WrongMoment
+early (L.Setpoint setpoint) = WrongMoment
 early (L.Contract contract) = WrongMoment
 early (L.Sample sample) = WrongMoment
 early L.End = WrongMoment
@@ -29,6 +31,8 @@ early L.Malformed = BadLine
 -- and after it
 abbrev pub late : Line → Refusal
 late (L.Header header) = WrongMoment
+late (L.Bounds bounds) = None
+late (L.Setpoint setpoint) = None
 late (L.Contract contract) = None
 late (L.Sample sample) = None
 late L.End = None
@@ -42,7 +46,9 @@ misplacedAt Closed said = None
 -- what the run is asked by a line in its place
 unfoldable pub servedTurn : Desk → ℕ → List ℕ → Line → Turn
 servedTurn desk number line (L.Header header) = openTurn desk number header
-servedTurn desk number line (L.Contract contract) = contractTurn desk number contract (identifierOf line)
+servedTurn desk number line (L.Bounds bounds) = answeredTurn desk number (withBoundsOf (desk .run) bounds)
+servedTurn desk number line (L.Setpoint setpoint) = answeredTurn desk number (withSetpointOf (desk .run) setpoint)
+servedTurn desk number line (L.Contract contract) = answeredTurn desk number (contractedOf (desk .run) contract (identifierOf line))
 servedTurn desk number line (L.Sample sample) = sampleTurn desk number sample
 servedTurn desk number line L.End = endTurn desk number
 servedTurn desk number line L.Malformed = refusedTurn desk number BadLine

@@ -3,14 +3,14 @@ use arithmetic::date::Date;
 use reading::Line;
 use reading::identifier;
 use reading::read;
+use settlement::run::Answer;
 use settlement::run::Run;
 use settlement::run::Taken;
 use sheets::Printed;
+use sheets::print_closing;
 use sheets::print_head;
 use sheets::print_quarter;
 use sheets::print_refusal;
-use sheets::print_total;
-use vocabulary::contract::Contract;
 use vocabulary::header::Header;
 use vocabulary::header::Lot;
 use vocabulary::refusal::Refusal;
@@ -21,7 +21,7 @@ ghost use lib.ListN.{length};
 ghost use Rattle.sheets.specs.Buffer.{bufferLength, printAnswer, printInto};
 ghost use Rattle.records.specs.Tape.{samplesIn};
 ghost use Rattle.reading.specs.Line.{lineOf};
-ghost use Rattle.text.specs.Desk.{Tells, deskAt, emptyDesk, answerOf, refusedTurn, openTurn, contractTurn, takenText, quarterTurn, sampleTurn};
+ghost use Rattle.text.specs.Desk.{Tells, deskAt, emptyDesk, answerOf, refusedTurn, openTurn, answeredTurn, takenText, quarterTurn, sampleTurn};
 ghost use Rattle.text.specs.Desk.{samplesTurn, roomAt, endTurn, lineTurn, finishTurn, closedAt};
 ghost use Rattle.text.specs.Serving.{Turned, toldBy, early, late, misplacedAt, begunTurn, servedTurn, placedTurn};
 
@@ -72,6 +72,8 @@ fn too_early(said: Line) -> Refusal
 {
     match said {
         Line::Header(_) => Refusal::None,
+        Line::Bounds(_) => Refusal::WrongMoment,
+        Line::Setpoint(_) => Refusal::WrongMoment,
         Line::Contract(_) => Refusal::WrongMoment,
         Line::Sample(_) => Refusal::WrongMoment,
         Line::End => Refusal::WrongMoment,
@@ -85,6 +87,8 @@ fn too_late(said: Line) -> Refusal
 {
     match said {
         Line::Header(_) => Refusal::WrongMoment,
+        Line::Bounds(_) => Refusal::None,
+        Line::Setpoint(_) => Refusal::None,
         Line::Contract(_) => Refusal::None,
         Line::Sample(_) => Refusal::None,
         Line::End => Refusal::None,
@@ -167,10 +171,10 @@ impl Desk {
         Desk::begun(opened.run, out)
     }
 
-    fn contract(self, number: u64, contract: Contract, identifier: &[u8], out: &mut [u8]) -> Told
-        ensures { λ r. ⌜ Turned (now (out .entry)) (contractTurn self number contract (now (identifier .entry))) r (now (out .exit)) ⌝ }
+    // What a call answered for which nothing is printed.
+    fn answered(self, number: u64, answer: Answer, out: &mut [u8]) -> Told
+        ensures { λ r. ⌜ Turned (now (out .entry)) (answeredTurn self number answer) r (now (out .exit)) ⌝ }
     {
-        let answer = self.run.contract(contract, identifier);
         let refusal = answer.refusal;
         if refusal.number() != 0 {
             return self.refused(number, refusal, out);
@@ -233,7 +237,8 @@ impl Desk {
         if refusal.number() != 0 {
             return self.refused(number, refusal, out);
         }
-        let printed = print_total(out, ended.quarters, ended.fees, ended.penalties);
+        let past = ended.past;
+        let printed = print_closing(out, ended.quarters, ended.fees, ended.penalties, past);
         Desk::told(ended.run, Stage::Closed, printed)
     }
 
@@ -243,7 +248,13 @@ impl Desk {
     {
         match said {
             Line::Header(header) => self.open(number, header, out),
-            Line::Contract(contract) => self.contract(number, contract, identifier(line), out),
+            Line::Bounds(bounds) => self.answered(number, self.run.bounds(bounds), out),
+            Line::Setpoint(setpoint) => self.answered(number, self.run.setpoint(setpoint), out),
+            Line::Contract(contract) => self.answered(
+                number,
+                self.run.contract(contract, identifier(line)),
+                out,
+            ),
             Line::Sample(sample) => self.sample(number, sample, out),
             Line::End => self.end(number, out),
             Line::Malformed => self.refused(number, Refusal::BadLine, out),

@@ -5,7 +5,7 @@ use lib.Dec.{eqb}
 use Rattle.vocabulary.specs.declared.refusal.Refusal.{Refusal}
 use Rattle.vocabulary.specs.declared.refusal.Refusal.the-variants.{None, WrongMoment, BadInterval, BadLot, BadDate, BadQuarters}
 use Rattle.vocabulary.specs.declared.refusal.Refusal.the-variants.{TooManyContracts, BadIdentifier, IdentifierTaken, BadAward, AwardsTooHigh}
-use Rattle.vocabulary.specs.declared.refusal.Refusal.the-variants.{BadPrice, PriceTooLow, BadPower, BadLine, NoEnd, BufferTooShort}
+use Rattle.vocabulary.specs.declared.refusal.Refusal.the-variants.{BadPrice, PriceTooLow, BadPower, BadLine, NoEnd, BufferTooShort, BadBlockLength, BadBlockValue}
 
 abbrev pub numberOf : Refusal → ℕ
 numberOf None = 0
@@ -25,6 +25,8 @@ numberOf BadPower = 13
 numberOf BadLine = 14
 numberOf NoEnd = 15
 numberOf BufferTooShort = 16
+numberOf BadBlockLength = 17
+numberOf BadBlockValue = 18
 
 -- whether nothing is refused
 abbrev pub accepted : Refusal → Bool

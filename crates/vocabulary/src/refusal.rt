@@ -21,6 +21,8 @@ pub enum Refusal {
     BadLine,
     NoEnd,
     BufferTooShort,
+    BadBlockLength,
+    BadBlockValue,
 }
 
 impl Refusal {
@@ -45,6 +47,8 @@ impl Refusal {
             Refusal::BadLine => 14,
             Refusal::NoEnd => 15,
             Refusal::BufferTooShort => 16,
+            Refusal::BadBlockLength => 17,
+            Refusal::BadBlockValue => 18,
         }
     }
 }

@@ -2,6 +2,7 @@
 //! should, with calls at other moments and with any numbers in between. What
 //! the lines mean is said by the program that makes the calls, crates/calls.
 
+use crate::block::{Block, LARGEST_BOUND};
 use crate::damage;
 use crate::plan::{self, Contract, Header, Plan, LARGEST_POWER, LARGEST_PRICE};
 use crate::random::Random;
@@ -98,6 +99,12 @@ impl Script {
             self.call(open_call(&plan.header));
         }
         self.call(open_call(&sound));
+        if self.random.once_in(5) {
+            self.spoilt_block(&sound, &plan);
+        }
+        if let Some(block) = &plan.block {
+            self.block(block);
+        }
         for contract in &plan.contracts {
             self.known.push(contract.clone());
             self.call(contract_call(contract));
@@ -106,8 +113,50 @@ impl Script {
         for _ in 0..self.random.pick(&[1, 1, 2, 3]) {
             self.call("E");
         }
+        if self.random.once_in(2) {
+            let line = print_call(&mut self.random, 'P');
+            self.call(line);
+        }
         let late = self.random.pick(&[0, 1, 4]);
         self.any_calls(late);
+    }
+
+    /// A block that is no good, and what comes after it. It would stay open, so
+    /// mostly the run is opened anew.
+    fn spoilt_block(&mut self, header: &Header, plan: &Plan) {
+        let mut spoilt = plan.clone();
+        damage::spoil_block(&mut self.random, &mut spoilt);
+        if let Some(block) = &spoilt.block {
+            self.block(block);
+        }
+        let next = self.random.pick(&[1, 2, 5]);
+        self.any_calls(next);
+        if !self.random.once_in(6) {
+            self.call(open_call(header));
+        }
+    }
+
+    /// The calls of a block, its setpoints in some pieces, each with one value
+    /// held: the newest stays what it is. Now and then it does not begin, or another
+    /// call comes in between.
+    fn block(&mut self, block: &Block) {
+        let Block { oga, uga, .. } = block;
+        if !self.random.once_in(30) {
+            self.call(format!("A\t{oga}\t{uga}"));
+        }
+        let pieces = self.random.pick(&[1, 2, 5, 20, 60]);
+        let mut left = block.setpoints.as_slice();
+        while !left.is_empty() {
+            let longest = (2 * block.setpoints.len() / pieces).max(1);
+            let times = (1 + self.random.below(longest)).min(left.len());
+            let (piece, rest) = left.split_at(times);
+            left = rest;
+            self.call(format!("B\t{times}\t{}", piece[times - 1]));
+            if self.random.once_in(12) {
+                let line = any_call_about_a_block(&mut self.random);
+                self.call(line);
+            }
+        }
     }
 
     /// Fills and takes quarter hours, mostly each of them in its time.
@@ -180,8 +229,9 @@ fn contract_call(contract: &Contract) -> Vec<u8> {
 
 /// A call with any numbers, which may come at any moment.
 fn any_call(random: &mut Random, known: &[Contract]) -> Vec<u8> {
-    match random.below(20) {
+    match random.below(23) {
         0..=4 => return contract_call(&any_contract(random, known)),
+        20..=22 => any_call_about_a_block(random),
         5..=8 => any_samples(random),
         9 | 10 => "K".to_string(),
         11 | 12 => "E".to_string(),
@@ -189,7 +239,7 @@ fn any_call(random: &mut Random, known: &[Contract]) -> Vec<u8> {
         // Rare, as it puts an end to the run at hand.
         14 if random.once_in(3) => any_opening(random),
         _ => {
-            let kind = random.pick(&['V', 'Q', 'T', 'R', 'R']);
+            let kind = random.pick(&['V', 'Q', 'T', 'P', 'R', 'R']);
             print_call(random, kind)
         }
     }
@@ -244,6 +294,33 @@ fn any_byte_of_field(random: &mut Random) -> u8 {
     }
 }
 
+/// A call that begins a block or goes on with one, or asks for the one that the
+/// run leaves behind.
+fn any_call_about_a_block(random: &mut Random) -> String {
+    match random.below(5) {
+        0 | 1 => {
+            let (oga, uga) = (any_bound(random), any_bound(random));
+            format!("A\t{oga}\t{uga}")
+        }
+        2 | 3 => {
+            let times = random.pick(&[0, 1, 1, 1, 2, 75, 301]);
+            let setpoint = random.between(-20_000, 20_000);
+            let setpoint = perhaps_any(random, setpoint);
+            format!("B\t{times}\t{setpoint}")
+        }
+        _ => print_call(random, 'P'),
+    }
+}
+
+/// Of the bounds of a block, in units.
+fn any_bound(random: &mut Random) -> i64 {
+    match random.below(4) {
+        0 => any_amount(random),
+        1 => random.pick(&[-1, 1]) * (LARGEST_BOUND + random.between(-1, 1)),
+        _ => random.between(-LARGEST_BOUND, LARGEST_BOUND),
+    }
+}
+
 fn any_samples(random: &mut Random) -> String {
     let times = random.pick(&[0, 1, 1, 1, 2, 31, 250]);
     let setpoint = random.between(-20_000, 20_000);
@@ -274,10 +351,13 @@ fn any_opening(random: &mut Random) -> String {
     format!("O\t{date}\t{interval}\t{lot}\t{quarter_hours}")
 }
 
-/// The call that prints a line V, T or R or the lines of a quarter hour, with
-/// any numbers and a buffer of any length.
+/// The call that prints a line V, T or R, the lines of a quarter hour or those
+/// of the run's block (P), with any numbers and a buffer of any length.
 fn print_call(random: &mut Random, kind: char) -> String {
     let room = room(random);
+    if kind == 'P' {
+        return format!("P\t{room}");
+    }
     let fields = match kind {
         'V' => {
             let date = any_date(random);
@@ -292,7 +372,7 @@ fn print_call(random: &mut Random, kind: char) -> String {
         }
         _ => {
             let line = any_amount(random).abs();
-            format!("{line}\t{}", random.below(17))
+            format!("{line}\t{}", random.below(19))
         }
     };
     format!("{kind}\t{room}\t{fields}")

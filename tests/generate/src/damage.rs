@@ -1,5 +1,6 @@
 //! What can be wrong with an input: values, lines and bytes.
 
+use crate::block::{self, Block, LARGEST_BOUND, UNITS_PER_KW};
 use crate::plan::{self, Contract, Header, Plan, LARGEST_POWER, LARGEST_PRICE};
 use crate::random::Random;
 
@@ -66,6 +67,23 @@ const WELL_FORMED_NUMBERS: &[&[u8]] = &[
     b"999999999",
     b"-999999999",
     b"100000000",
+];
+/// Of the bounds of a block, which may have two digits more.
+const LONG_NUMBERS: &[&[u8]] = &[
+    b"0",
+    b"1000000000",
+    b"-9999999999",
+    b"10800000000",
+    b"-10800000000",
+    b"10800000001",
+    b"-10800000001",
+    b"99999999999",
+    b"-99999999999",
+    b"100000000000",
+    b"-100000000000",
+    b"010800000000",
+    b"4294967296",
+    b"-2147483649",
 ];
 const ILL_FORMED_DATES: &[&[u8]] = &[
     b"",
@@ -167,9 +185,9 @@ const ODD_IDENTIFIERS: &[&[u8]] = &[
 ];
 const FIRST_FIELDS: &[&[u8]] = &[
     b"", b" ", b"X", b"d", b"c", b"s", b"e", b"DD", b"EE", b"V", b"Q", b"K", b"T", b"R", b"O",
-    b"B", b"G", b"U", b"N", b"\0", b"E ", b"S ", b"\xc5", b"#",
+    b"B", b"G", b"U", b"N", b"Z", b"o", b"b", b"OB", b"\0", b"E ", b"S ", b"\xc5", b"#",
 ];
-const ODD_BYTES: &[u8] = b"\0\t\t\n\r -+.019AEDCSPNazZ_\x7f\x80\xbf\xff";
+const ODD_BYTES: &[u8] = b"\0\t\t\n\r -+.019AEDCSOBPNazZ_\x7f\x80\xbf\xff";
 
 type Lines = Vec<Vec<u8>>;
 
@@ -196,6 +214,227 @@ pub fn spoil_plan(random: &mut Random, plan: &mut Plan) {
         _ => {
             let place = random.below(plan.samples.len());
             plan.samples[place] = spoilt_sample(random);
+        }
+    }
+}
+
+/// The block of a plan; a plan that has none is given one.
+pub fn some_block<'a>(random: &mut Random, plan: &'a mut Plan) -> &'a mut Block {
+    let interval = plan.header.interval;
+    let first = plan.samples.first().map_or(0, |(setpoint, _)| *setpoint);
+    plan.block.get_or_insert_with(|| {
+        let led_up = vec![first.clamp(-LARGEST_POWER, LARGEST_POWER); block::length(interval)];
+        Block::random(random, interval, 1_000, led_up)
+    })
+}
+
+/// Puts one fault into the values or the length of a plan's block.
+pub fn spoil_block(random: &mut Random, plan: &mut Plan) {
+    let block = some_block(random, plan);
+    match random.below(8) {
+        0 => {
+            let sign = random.pick(&[-1, 1]);
+            // The largest number of eleven digits, and the smallest of twelve.
+            let large = 99_999_999_999 - LARGEST_BOUND;
+            let beyond = random.pick(&[0, 1, 1, 1, 2, large, large + 1, large + 1]);
+            let bound = random.pick(&[0, 1]);
+            *[&mut block.oga, &mut block.uga][bound] = sign * (LARGEST_BOUND + beyond);
+        }
+        1 | 2 => setpoint_about_the_range(random, block),
+        3..=5 => newest_about_a_bound(random, block),
+        6 => {
+            let length = block.setpoints.len();
+            let (shorter, longer) = (random.below(length + 1), length + random.below(300));
+            let one_less = length.saturating_sub(1);
+            let lengths = [
+                0,
+                1,
+                one_less,
+                one_less,
+                length + 1,
+                length + 1,
+                shorter,
+                longer,
+            ];
+            change_length(block, random.pick(&lengths));
+        }
+        // The length of another interval.
+        _ => change_length(block, block::length(random.pick(&[1, 3, 4]))),
+    }
+}
+
+/// A setpoint at an end of its range, or beyond it, at any place.
+fn setpoint_about_the_range(random: &mut Random, block: &mut Block) {
+    let Some(last) = block.setpoints.len().checked_sub(1) else {
+        return;
+    };
+    let any = random.below(last + 1);
+    let place = random.pick(&[0, last.saturating_sub(1), last, any, any]);
+    let beyond = random.pick(&[0, 1, 1, 1, 997_999_999]);
+    block.setpoints[place] = random.pick(&[-1, 1]) * (LARGEST_POWER + beyond);
+}
+
+/// Bounds at the newest setpoint, or by one unit on its wrong side, or exchanged;
+/// or a newest setpoint by one kW beside them.
+fn newest_about_a_bound(random: &mut Random, block: &mut Block) {
+    let Some(newest) = block.setpoints.last_mut() else {
+        return;
+    };
+    let units = *newest * UNITS_PER_KW;
+    match random.below(7) {
+        0 => block.oga = (units - 1).max(-LARGEST_BOUND),
+        1 => block.uga = (units + 1).min(LARGEST_BOUND),
+        2 => (block.oga, block.uga) = (units, units),
+        3 => {
+            (block.oga, block.uga) = (units, units);
+            *newest += random.pick(&[-1, 1]);
+        }
+        4 => std::mem::swap(&mut block.oga, &mut block.uga),
+        5 => *newest = -*newest,
+        // Only the newest has to lie between them.
+        _ => {
+            (block.oga, block.uga) = (units, units);
+            let place = block.setpoints.len().saturating_sub(2);
+            block.setpoints[place] = random.between(-LARGEST_POWER, LARGEST_POWER);
+        }
+    }
+}
+
+/// Drops the oldest setpoints, or puts older ones before them, so that the
+/// newest stays.
+fn change_length(block: &mut Block, length: usize) {
+    let newest = block.setpoints.last().copied().unwrap_or(0);
+    block.setpoints.reverse();
+    block.setpoints.resize(length, newest);
+    block.setpoints.reverse();
+}
+
+/// Spoils the lines of an input about its block, or puts lines of a block where
+/// there is none.
+pub fn spoil_block_lines(random: &mut Random, lines: &mut Lines) {
+    let end = end_of_block(lines);
+    let within = place_about_block(random, end);
+    match random.below(12) {
+        // Interrupted.
+        0..=3 => {
+            let line = any_line(random, lines);
+            lines.insert(within, line);
+        }
+        // Two O lines.
+        4 => {
+            let again = lines[1.min(lines.len() - 1)].clone();
+            lines.insert(within, again);
+        }
+        // The input ends.
+        5 => lines.truncate(within),
+        // No O line, or no B lines.
+        6 if random.once_in(2) && end > 1 => {
+            lines.remove(1);
+        }
+        6 => {
+            lines.drain(end.min(2)..end);
+        }
+        // The whole block at another place.
+        7 => {
+            let block: Lines = lines.drain(end.min(1)..end).collect();
+            let place = place(random, lines);
+            lines.splice(place..place, block);
+        }
+        // Single lines of one, mostly behind the first contract or sample.
+        kind => {
+            let line = any_block_line(random);
+            let place = match kind {
+                8 => first_of(lines, b"CS") + 1,
+                9 => first_of(lines, b"S") + 1,
+                _ => place(random, lines),
+            };
+            lines.insert(place.min(lines.len()), line);
+        }
+    }
+}
+
+/// A place within a block, or directly before or after it; directly after the
+/// header where there is none.
+fn place_about_block(random: &mut Random, end: usize) -> usize {
+    if end < 2 {
+        return end;
+    }
+    let any = 2 + random.below(end - 1);
+    let near_end = end - random.below(end - 1).min(2);
+    random.pick(&[1, 2, end - 1, end, near_end, any, any])
+}
+
+/// How many lines there are up to the end of the block, the header among them.
+fn end_of_block(lines: &Lines) -> usize {
+    let begins = |place, letter: &[u8]| {
+        lines
+            .get(place)
+            .is_some_and(|line: &Vec<u8>| line.starts_with(letter))
+    };
+    let mut end = lines.len().min(1);
+    if begins(end, b"O\t") {
+        end += 1;
+        while begins(end, b"B\t") {
+            end += 1;
+        }
+    }
+    end
+}
+
+/// The first line that begins with one of some letters, or else the last.
+fn first_of(lines: &Lines, letters: &[u8]) -> usize {
+    let is_of = |line: &Vec<u8>| line.first().is_some_and(|first| letters.contains(first));
+    let place = lines.iter().position(is_of);
+    place.unwrap_or(lines.len().saturating_sub(1))
+}
+
+/// An O or a B line, in range or not.
+fn any_block_line(random: &mut Random) -> Vec<u8> {
+    let beyond = random.pick(&[-1, 0, 1, 97_999_999]);
+    if random.once_in(2) {
+        format!("O\t{}\t0", LARGEST_BOUND + beyond).into_bytes()
+    } else {
+        let setpoint = random.pick(&[0, LARGEST_POWER + beyond]);
+        format!("B\t{setpoint}").into_bytes()
+    }
+}
+
+/// A line of any kind, good in itself or not.
+fn any_line(random: &mut Random, lines: &Lines) -> Vec<u8> {
+    match random.below(8) {
+        0 => {
+            let mut header = lines[0].clone();
+            if random.once_in(2) {
+                spoil_field(random, &mut header);
+            }
+            header
+        }
+        1 | 2 => {
+            let mut contract = Contract {
+                direction: random.pick(b"PN"),
+                identifier: plan::identifier(random),
+                award: 1,
+                price: -LARGEST_PRICE,
+            };
+            if !random.once_in(3) {
+                spoil_contract(random, &[], &mut contract);
+            }
+            plan::contract_line(&contract)
+        }
+        3 | 4 => {
+            let (setpoint, actual) = if random.once_in(2) {
+                (0, 0)
+            } else {
+                spoilt_sample(random)
+            };
+            format!("S\t{setpoint}\t{actual}").into_bytes()
+        }
+        5 => b"E".to_vec(),
+        6 => any_block_line(random),
+        _ => {
+            let mut line = any_block_line(random);
+            spoil_field(random, &mut line);
+            line
         }
     }
 }
@@ -469,16 +708,15 @@ pub fn spoil_lines(random: &mut Random, lines: &mut Lines) {
 /// A line, each kind about as often although most are samples.
 fn place(random: &mut Random, lines: &Lines) -> usize {
     let last = lines.len() - 1;
-    let first_sample = lines
-        .iter()
-        .position(|line| line.first() == Some(&b'S'))
-        .unwrap_or(last);
-    match random.below(8) {
+    let (first_contract, first_sample) = (first_of(lines, b"CSE"), first_of(lines, b"SE"));
+    match random.below(10) {
         0 => 0,
         1 => last,
         2 => last.saturating_sub(1),
-        3 | 4 => random.below(first_sample.max(1)),
-        5 => first_sample,
+        3 => random.below(first_sample.max(1)),
+        4 | 5 => first_contract + random.below(first_sample.saturating_sub(first_contract) + 1),
+        6 => first_sample,
+        7 => 1.min(last),
         _ => random.below(lines.len()),
     }
 }
@@ -498,6 +736,7 @@ fn spoil_field(random: &mut Random, line: &mut Vec<u8>) {
         (b"D", 1) => &[ILL_FORMED_DATES, WELL_FORMED_DATES, WELL_FORMED_DATES],
         (b"C", 1) => &[OTHER_DIRECTIONS],
         (b"C", 2) => &[ILL_FORMED_IDENTIFIERS, ODD_IDENTIFIERS],
+        (b"O", _) => &[ILL_FORMED_NUMBERS, WELL_FORMED_NUMBERS, LONG_NUMBERS],
         _ => &[ILL_FORMED_NUMBERS, WELL_FORMED_NUMBERS],
     };
     let list = random.pick(lists);

@@ -1,12 +1,16 @@
 //! Writes test inputs for the settling program: `generate SEED` one input that
 //! is the same for the same seed, sound or damaged about as often; `generate
-//! day INTERVAL CONTRACTS` one whole day. `generate calls SEED` writes a script of
-//! library calls.
+//! day INTERVAL CONTRACTS` one whole day; `generate join SEED PART` a run that is
+//! cut in two, where PART is `first`, `second` (to which the carry block that the
+//! first printed is still to be put) or `both`. `generate calls SEED` writes a
+//! script of library calls.
 
+mod block;
 mod calls;
 mod curves;
 mod damage;
 mod day;
+mod join;
 mod plan;
 mod random;
 
@@ -21,6 +25,7 @@ fn main() -> ExitCode {
     let arguments: Vec<String> = env::args().skip(1).collect();
     let text = match arguments.as_slice() {
         [mode, interval, contracts] if mode == "day" => day_of(interval, contracts),
+        [mode, seed, part] if mode == "join" => part_of_join(seed, part),
         [mode, seed] if mode == "calls" => seed.parse().ok().map(calls::script),
         [seed] => seed.parse().ok().map(input),
         _ => None,
@@ -37,7 +42,8 @@ fn main() -> ExitCode {
 fn usage() -> ExitCode {
     let _ = writeln!(
         io::stderr(),
-        "usage: generate SEED, generate calls SEED, or generate day INTERVAL CONTRACTS"
+        "usage: generate SEED, generate calls SEED, generate join SEED first|second|both, \
+         or generate day INTERVAL CONTRACTS"
     );
     ExitCode::from(2)
 }
@@ -50,6 +56,11 @@ fn day_of(interval: &str, contracts: &str) -> Option<Vec<u8>> {
     Some(day::write(interval, contracts))
 }
 
+fn part_of_join(seed: &str, part: &str) -> Option<Vec<u8>> {
+    let lines = join::part(seed.parse().ok()?, part)?;
+    Some(written(&lines))
+}
+
 /// The input of a seed.
 fn input(seed: u64) -> Vec<u8> {
     let mut random = Random::new(seed);
@@ -60,11 +71,21 @@ fn input(seed: u64) -> Vec<u8> {
 
     // Mostly one fault, so that it is the one that is found.
     let faults = random.pick(&[1, 1, 1, 2, 3]);
-    let kinds: Vec<usize> = (0..faults).map(|_| random.below(7)).collect();
+    let kinds: Vec<usize> = (0..faults).map(|_| random.below(11)).collect();
     for _ in kinds.iter().filter(|kind| (0..3).contains(*kind)) {
         damage::spoil_plan(&mut random, &mut plan);
     }
+    for _ in kinds.iter().filter(|kind| (7..9).contains(*kind)) {
+        damage::spoil_block(&mut random, &mut plan);
+    }
+    // Now and then none, so that its lines come where there is no block.
+    if kinds.contains(&9) {
+        damage::some_block(&mut random, &mut plan);
+    }
     let mut lines = plan.lines();
+    for _ in kinds.iter().filter(|kind| (9..11).contains(*kind)) {
+        damage::spoil_block_lines(&mut random, &mut lines);
+    }
     for _ in kinds.iter().filter(|kind| (3..6).contains(*kind)) {
         if !lines.is_empty() {
             damage::spoil_lines(&mut random, &mut lines);
@@ -94,6 +115,70 @@ mod tests {
     fn the_same_seed_writes_the_same_input() {
         assert!((0..50).all(|seed| input(seed) == input(seed)));
         assert_ne!(input(1), input(2));
+    }
+
+    /// What lines of a block stand where, in so many inputs: as they should, and
+    /// in each of the ways in which they should not.
+    #[test]
+    fn blocks_are_damaged_in_every_way() {
+        let mut found = std::collections::BTreeMap::new();
+        for seed in 0..4_000 {
+            let text = input(seed);
+            let kinds: Vec<u8> = text
+                .split(|&byte| byte == b'\n')
+                .map(|line| line.first().copied().unwrap_or(b'-'))
+                .take(400)
+                .collect();
+            let past = kinds
+                .iter()
+                .skip(2)
+                .take_while(|kind| **kind == b'B')
+                .count();
+            let name = match kinds.as_slice() {
+                [b'D', b'O', ..] => {
+                    let next = kinds.get(2 + past).copied().unwrap_or(b'-');
+                    let whole = [75, 100, 301].contains(&past);
+                    format!("{} {}", if whole { "whole" } else { "other" }, next as char)
+                }
+                [b'D', b'B', ..] => "B after D".to_string(),
+                [b'O' | b'B', ..] => "first".to_string(),
+                _ if kinds.contains(&b'O') || kinds.contains(&b'B') => "late".to_string(),
+                _ => "none".to_string(),
+            };
+            *found.entry(name).or_insert(0) += 1;
+        }
+        for name in [
+            "whole C",
+            "whole S",
+            "whole D",
+            "whole O",
+            "whole E",
+            "other C",
+            "other S",
+            "other D",
+            "other O",
+            "other E",
+            "other -",
+            "B after D",
+            "first",
+            "late",
+            "none",
+        ] {
+            assert!(found.contains_key(name), "{name}: {found:?}");
+        }
+    }
+
+    /// Of all inputs, damaged or not, more than a third go on after the header
+    /// with a block.
+    #[test]
+    fn a_third_have_a_block() {
+        let has_block = |seed: &u64| {
+            let input = input(*seed);
+            let mut lines = input.split(|&byte| byte == b'\n');
+            lines.nth(1).is_some_and(|line| line.starts_with(b"O\t"))
+        };
+        let count = (0..2_000).filter(has_block).count();
+        assert!(count > 800, "{count}");
     }
 
     #[test]

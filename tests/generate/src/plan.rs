@@ -1,5 +1,7 @@
-//! A sound input: its header, contracts and samples, and how they are written.
+//! A sound input: its header, carry block, contracts and samples, and how they
+//! are written.
 
+use crate::block::{self, Block};
 use crate::curves;
 use crate::random::Random;
 
@@ -23,8 +25,10 @@ pub struct Contract {
     pub price: i64,
 }
 
+#[derive(Clone)]
 pub struct Plan {
     pub header: Header,
+    pub block: Option<Block>,
     pub contracts: Vec<Contract>,
     /// Setpoint and actual.
     pub samples: Vec<(i64, i64)>,
@@ -33,42 +37,55 @@ pub struct Plan {
 impl Plan {
     pub fn random(random: &mut Random) -> Plan {
         let header = header(random);
-        let samples_per_quarter_hour = 900 / header.interval;
-        let count = (header.quarter_hours * samples_per_quarter_hour) as usize;
+        Plan::with_header(random, header)
+    }
+
+    /// A plan with contracts and samples for a header, and about as often as
+    /// not with a block: its setpoints then lead up to the samples.
+    pub fn with_header(random: &mut Random, header: Header) -> Plan {
+        let interval = header.interval;
+        let past = if random.once_in(2) {
+            block::length(interval)
+        } else {
+            0
+        };
+        let count = (header.quarter_hours * 900 / interval) as usize;
         // Of the size of the contracts' awards, so that slicing matters.
         let size = random.pick(&[2, 3, 10, 100, 1_000, 5_000, 20_000, 100_000, LARGEST_POWER]);
-        if random.once_in(5) {
-            let (contracts, samples) = tolerance_fan(random, count);
-            return Plan {
-                header,
-                contracts,
-                samples,
-            };
-        }
-        let mut contracts = list(random, b'P', size);
-        contracts.extend(list(random, b'N', size));
-        mix_directions(random, &mut contracts);
-        make_identifiers_differ(random, &mut contracts);
-        let limits = last_limits(&contracts);
-        let samples = match random.below(6) {
-            0 | 1 => curves::about_limits(random, limits, count),
-            // Any course, of which about half lies above a last limit.
-            2 | 3 => {
-                let size = 2 * random.pick(&limits).clamp(1, LARGEST_POWER / 2);
-                curves::random(random, size, count)
-            }
-            _ => curves::random(random, size, count),
-        };
-        Plan {
+        let (contracts, mut samples) = contracts_and_samples(random, size, past + count);
+        let led_up: Vec<i64> = samples
+            .drain(..past)
+            .map(|(setpoint, _)| setpoint)
+            .collect();
+        let mut plan = Plan {
             header,
+            block: (past > 0).then(|| Block::random(random, interval, size, led_up)),
             contracts,
             samples,
+        };
+        let newest = plan.block.as_ref().and_then(|block| block.setpoints.last());
+        if let Some(newest) = newest.copied().filter(|_| random.once_in(4)) {
+            plan.show_past(random, 0, newest);
+        }
+        plan
+    }
+
+    /// Holds the setpoint before a sample from there on for a while and delivers
+    /// as much as there may be, with the least lot: what is accepted is then the
+    /// bound itself, and where it goes is said by the past alone.
+    pub fn show_past(&mut self, random: &mut Random, sample: usize, before: i64) {
+        self.header.lot = random.pick(&[&b"1"[..], b"1", b"100"]).to_vec();
+        let delivered = random.pick(&[-LARGEST_POWER, LARGEST_POWER]);
+        let held = random.between(1, 900) as usize;
+        for sample in self.samples.iter_mut().skip(sample).take(held) {
+            *sample = (before, delivered);
         }
     }
 
     /// The lines without their LF.
     pub fn lines(&self) -> Vec<Vec<u8>> {
         let mut lines = vec![header_line(&self.header)];
+        lines.extend(self.block.iter().flat_map(Block::lines));
         lines.extend(self.contracts.iter().map(contract_line));
         lines.extend(
             self.samples
@@ -78,6 +95,32 @@ impl Plan {
         lines.push(b"E".to_vec());
         lines
     }
+}
+
+/// Contracts, and as many samples as asked for, of about the given size.
+fn contracts_and_samples(
+    random: &mut Random,
+    size: i64,
+    count: usize,
+) -> (Vec<Contract>, Vec<(i64, i64)>) {
+    if random.once_in(5) {
+        return tolerance_fan(random, count);
+    }
+    let mut contracts = list(random, b'P', size);
+    contracts.extend(list(random, b'N', size));
+    mix_directions(random, &mut contracts);
+    make_identifiers_differ(random, &mut contracts);
+    let limits = last_limits(&contracts);
+    let samples = match random.below(6) {
+        0 | 1 => curves::about_limits(random, limits, count),
+        // Any course, of which about half lies above a last limit.
+        2 | 3 => {
+            let size = 2 * random.pick(&limits).clamp(1, LARGEST_POWER / 2);
+            curves::random(random, size, count)
+        }
+        _ => curves::random(random, size, count),
+    };
+    (contracts, samples)
 }
 
 pub fn header_line(header: &Header) -> Vec<u8> {
@@ -106,7 +149,7 @@ fn last_limits(contracts: &[Contract]) -> [i64; 2] {
     })
 }
 
-fn header(random: &mut Random) -> Header {
+pub fn header(random: &mut Random) -> Header {
     Header {
         date: date(random),
         interval: random.pick(&[1, 3, 4, 4]),
@@ -131,7 +174,7 @@ fn header(random: &mut Random) -> Header {
     }
 }
 
-fn date(random: &mut Random) -> Vec<u8> {
+pub fn date(random: &mut Random) -> Vec<u8> {
     match random.below(8) {
         0 => b"2000-01-01".to_vec(),
         1 => b"2099-12-31".to_vec(),
@@ -329,6 +372,14 @@ mod tests {
                 && samples.any(|(setpoint, actual)| kind(sign * setpoint, sign * actual, limit))
         };
         (0..2_000).filter(has_kind).count()
+    }
+
+    /// With a block in sound and in damaged inputs more than a third have one.
+    #[test]
+    fn about_half_have_a_block() {
+        let has_block = |seed: &u64| Plan::random(&mut Random::new(*seed)).block.is_some();
+        let count = (0..2_000).filter(has_block).count();
+        assert!((900..1_100).contains(&count), "{count}");
     }
 
     #[test]

@@ -2,6 +2,7 @@
 -- Assumes nothing.
 use Prim.Native.Nat.{_+_, _-_, _≤_}
 use lib.ListN.{length}
+use native.Mathlib.Omega.{arith}
 use borrow.Author.Needs.{needs}
 use Rattle.calls.proofs.play.Statement.{statement}
 use Rattle.calls.proofs.play.Tie as tie
@@ -37,7 +38,7 @@ called-requires : tie.Need-called-requires Inv-loop μ-loop
 called-requires c κs = search needs
 
 add-from : tie.Need-add-from Inv-loop μ-loop
-add-from c = search needs
+add-from c = record { fits = omega (arith, c .before .before .before .line-end .ensures, c .before .before .before .before .before .before .before .before .good) }
 
 loop-less : tie.Need-loop-less Inv-loop μ-loop
 loop-less c = search needs

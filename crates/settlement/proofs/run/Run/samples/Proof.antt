@@ -9,18 +9,33 @@ use Rattle.settlement.proofs.Many.{many-recorded}
 use Rattle.settlement.proofs.run.Run.samples.Statement.{statement}
 use Rattle.settlement.proofs.run.Run.samples.Tie as tie
 
+first-sample-requires : tie.Need-first-sample-requires
+first-sample-requires c κs = search needs
+
+returns : tie.Need-returns
+returns c = c .first-sample .ensures
+
 interval-requires : tie.Need-interval-requires
 interval-requires c κs = search needs
 
 with-samples-requires : tie.Need-with-samples-requires
 with-samples-requires c κs = search needs
 
-returns : tie.Need-returns
+returns-2 : tie.Need-returns-2
 unfolding samplesOf
-returns c =
+returns-2 c =
     let at-tape = c .before in
-    let args = at-tape .before .before .before .before .args in
-    many-recorded (args .self) (samplesIn (now (args .setpoints)) (now (args .actuals))) (at-tape .with-samples .ensures ∙ rw (at-tape .before .interval .ensures))
+    let at-if = at-tape .before .before .before .before in
+    let args = at-if .before .before .before .args in
+    many-recorded (args .self) (samplesIn (now (args .setpoints)) (now (args .actuals))) (at-if .if1 .left)
+    (at-tape .with-samples .ensures ∙ rw (at-tape .before .interval .ensures))
 
 pub samples-spec : {M : Type 1} → statement M
-samples-spec = tie.close (tie.spec interval-requires with-samples-requires returns)
+samples-spec =
+    tie.close
+    (tie.spec
+    first-sample-requires
+    returns
+    interval-requires
+    with-samples-requires
+    returns-2)

@@ -1,0 +1,9 @@
+pub mod Sheets
+pub mod NumberBack
+pub mod BlockBack
+pub mod Accepting
+pub mod BlockAccepted
+pub mod DealsAccepted
+pub mod SaidAccepted
+pub mod Inputs
+pub mod Shapes
