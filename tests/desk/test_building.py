@@ -163,6 +163,8 @@ class Stopped(Repository):
         out, said = process.communicate(timeout=20)
         self.assertEqual((process.returncode, out), (-signal.SIGINT, b""), said)
         self.assertIn(b"stopping the proof", said)
+        # a prover that was killed takes a moment to go, and on a busy machine a longer one
+        self.wait_for(lambda: not self.provers())
         self.assertEqual((self.provers(), os.listdir(room.name)), ([], []))
 
     def provers(self):

@@ -83,7 +83,8 @@ end-accepted : (g : Given) (identifier : List ℕ) → length (g .samples) ≡ a
 unfolding grounds endGrounds
 end-accepted g identifier e = rw (le-ltb (length (g .samples)) (allSamples g) (omega arith))
 
-not-at-end : (line : Line) (so : SoFar) (rest : Ending) → (line ≡ L.End → ⊥) → atEnd line so rest ≡ rest
+-- a line other than E does not end the input
+pub not-at-end : (line : Line) (so : SoFar) (rest : Ending) → (line ≡ L.End → ⊥) → atEnd line so rest ≡ rest
 not-at-end (L.Header h) so rest n = refl
 not-at-end (L.Bounds bounds) so rest n = refl
 not-at-end (L.Setpoint s) so rest n = refl

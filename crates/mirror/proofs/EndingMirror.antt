@@ -19,10 +19,11 @@ use Rattle.reading.specs.Line.{lineOf, identifierOf}
 use Rattle.reading.specs.declared.Line.{Line}
 use Rattle.reading.specs.declared.Line.the-variants as L
 use Rattle.meaning.specs.Meaning.{SoFar, nothing, these, grounds, ground, after}
-use Rattle.meaning.specs.Endings.{Ending, refusedAt, short, atEnd, ending, endingOf, Accepts, none, more, Ends, by-end, by-refusal, by-stop, RefusedInput, ShortInput}
+use Rattle.meaning.specs.Endings.{Ending, refusedAt, short, ending, endingOf, Accepts, none, more, Ends, by-end, by-refusal, by-stop, RefusedInput, ShortInput}
 use Rattle.meaning.specs.Mirror.{mirrorSo, mirrorLine, mirrorEnding}
 use Rattle.meaning.proofs.Endings.{ends}
 use Rattle.meaning.proofs.Mirror.{ground-mirrored, after-mirrored}
+use Rattle.join.proofs.SaidAccepted.{not-at-end}
 use Rattle.mirror.specs.Bytes.{mirrorBytes, mirrorInput}
 use Rattle.mirror.proofs.LineMirror.{line-mirrored, line-twice, identifier-mirrored}
 use Rattle.mirror.proofs.InputMirror.{lines-mirrored}
@@ -97,15 +98,6 @@ ends-mirrored {first} {n} {lines} (by-refusal {so} before line rest s a e) =
 ends-mirrored {lines = lines} (by-stop a) = rw (← each-length mirrorBytes lines) (by-stop (accepts-mirrored a))
 
 -- ---- no second ending fits
-
-not-at-end : (line : Line) (so : SoFar) (rest : Ending) → (line ≡ L.End → ⊥) → atEnd line so rest ≡ rest
-not-at-end (L.Header h) so rest n = refl
-not-at-end (L.Bounds bounds) so rest n = refl
-not-at-end (L.Setpoint s) so rest n = refl
-not-at-end (L.Contract c) so rest n = refl
-not-at-end (L.Sample x) so rest n = refl
-not-at-end L.End so rest n = absurd (n refl)
-not-at-end L.Malformed so rest n = refl
 
 -- lines that are accepted, and then others
 ending-on : {so last : SoFar} {before : List (List ℕ)} → Accepts so before last → (n : ℕ) (rest : List (List ℕ)) → ending so n (before ++ rest) ≡ ending last (n + length before) rest
