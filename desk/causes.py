@@ -48,8 +48,8 @@ def _bounds_too_late(before):
         return Cause(0, f"an O line {where}: a carry block stands directly after the D line",
                      "move the O line and its B lines up, behind the D line, or take them out")
     if before.after:
-        return Cause(0, f"the input has a carry block of its own, and --after put that of {before.after} before it",
-                     "settle it without --after, or take its own O line and B lines out")
+        return Cause(0, f"the input has a carry block of its own, and that of {before.after} was put before it",
+                     "settle it without --after and --carry, or take its own O line and B lines out")
     return Cause(0, f"a second O line, {_block_so_far(before)}",
                  "leave one block, as it ends the sheet of the run before")
 

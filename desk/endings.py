@@ -1,6 +1,6 @@
 """How a run of the front end ends: one table of exit statuses, and the exceptions that lead there."""
 
-ACCEPTED, REFUSED, TROUBLE, NOT_BUILT, CHANGED = range(5)
+ACCEPTED, REFUSED, TROUBLE, NOT_BUILT, CHANGED, LEFT_ALONE = range(6)
 
 STATUSES = (
     (ACCEPTED, "done: the input was accepted"),
@@ -8,6 +8,7 @@ STATUSES = (
     (TROUBLE, "misuse, or an input or output that could not be read or written"),
     (NOT_BUILT, "not built: no toolchain, a proof that fails, or a folder that can't be written to"),
     (CHANGED, "a sheet was changed after it was printed: explain found a difference above the bound"),
+    (LEFT_ALONE, "a sheet that was there differs from what its input settles to: year left it alone"),
 )
 
 

@@ -14,6 +14,8 @@ HEAD = 1 << 16
 # The last bytes that are kept. The line that ends a run is among them: the program has read at most one block (64 KiB)
 # past it, as much again may wait in the pipe, and one block more was read here.
 WINDOW = 1 << 20
+# The end line of a file that the program read itself is among so many bytes before the place that it came to.
+REACH = 4 * BLOCK
 # As many bytes of a line are kept as a message can show.
 SHOWN = 256
 # How long to look whether something follows the end line where the input is a pipe that stays open, in milliseconds.
@@ -77,8 +79,13 @@ class Input:
         return self
 
     def __exit__(self, *_):
+        self.close()
+
+    def close(self):
+        """closes what was opened for it"""
         if self.own:
             os.close(self.descriptor)
+            self.own = False
 
     def read(self):
         """the next block: None where none is there yet, empty at the end"""
@@ -90,6 +97,22 @@ class Input:
             raise Trouble(f"{self.name} can't be read: {error.strerror}") from None
         self._keep(block)
         return block
+
+    def ends_where_read(self):
+        """whether nothing follows the end line of an input that the program accepted, and read as a file itself"""
+        came_to = os.lseek(self.descriptor, 0, os.SEEK_CUR)
+        start = max(0, came_to - REACH)
+        last = os.pread(self.descriptor, came_to - start + 1, start)
+        return last.find(b"\nE\n") == len(last) - 3
+
+    def start_anew(self):
+        """goes back to the first byte of a file that the program read itself"""
+        os.lseek(self.descriptor, 0, os.SEEK_SET)
+
+    def read_to_end_line(self):
+        """reads as far as the first end line, which the program has accepted"""
+        while b"\nE\n" not in self.window[-BLOCK - 2:] and self.read():
+            pass
 
     def blocks(self):
         """the blocks to the end, each waited for"""

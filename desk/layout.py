@@ -36,7 +36,7 @@ class Before:
         lines = source.head_lines()[:line_number - 1]
         fields = [line.split(b"\t") for line in lines]
         self.header = fields[0] if fields else None
-        # OGA and UGA of the carry block, how many setpoints follow them, and the sheet that --after took it from
+        # OGA and UGA of the carry block, how many setpoints follow them, and the sheet that the desk took it from
         self.bounds = next((tuple(map(int, field[1:])) for field in fields if field[0] == b"O"), None)
         self.past = sum(field[0] == b"B" for field in fields)
         self.after = source.after

@@ -18,6 +18,12 @@ def refusal(source, refused):
     return "\n  ".join(filter(None, parts))
 
 
+def more_follows(source):
+    """the message for an accepted input that goes on after its end line"""
+    return (f"{source.name}: more follows the end line (line {source.end_line_number()}), and is not read: "
+            "a further day needs an input of its own")
+
+
 def shown(line):
     """the line itself, or None where there is none"""
     if not line.complete:

@@ -57,11 +57,13 @@ class WholeFile:
 
     whole = True
 
-    def __init__(self, path):
+    def __init__(self, path, lasting=True):
         self.path = path
         self.place = os.path.realpath(path)
         self.draft = f"{self.place}.{os.getpid()}.draft"
         self.descriptor = None
+        # whether to wait until it would outlast a power failure
+        self.lasting = lasting
 
     def open(self):
         """begins the draft"""
@@ -78,7 +80,8 @@ class WholeFile:
         with _told(self.path):
             if os.path.exists(self.place):
                 os.fchmod(self.descriptor, stat.S_IMODE(os.stat(self.place).st_mode))
-            os.fsync(self.descriptor)
+            if self.lasting:
+                os.fsync(self.descriptor)
             os.replace(self.draft, self.place)
 
     def close(self):
@@ -104,6 +107,17 @@ def opened(path):
     try:
         output.open()
         yield output
+    finally:
+        output.close()
+
+
+def write_file(path, data):
+    """writes a file that can be made anew: whole or not at all, and without waiting for the disk"""
+    output = WholeFile(path, lasting=False)
+    try:
+        output.open()
+        output.write(data)
+        output.finish()
     finally:
         output.close()
 

@@ -39,6 +39,47 @@ def run(name, source, take):
     finally:
         if process:
             _end(process)
+    return _answer(name, source, status, tail)
+
+
+class Running:
+    """A program that reads an input's file itself, so that only what it prints passes through here, and as many can run
+    at a time as one wants. A read error is the end of the input to it: a refusal has to be asked for by `run`, too."""
+
+    def __init__(self, name, source):
+        self.name = name
+        self.source = source
+        self.process = None
+        self.tail = b""
+
+    def start(self):
+        """starts it"""
+        into, out = self.source.descriptor, subprocess.PIPE
+        with signals.held():
+            self.process = subprocess.Popen(_command(self.name), stdin=into, stdout=out, bufsize=0)
+
+    def descriptor(self):
+        """where to wait for what it prints"""
+        return self.process.stdout.fileno()
+
+    def read(self):
+        """what it printed next, empty at its end"""
+        printed = os.read(self.descriptor(), BLOCK)
+        self.tail = (self.tail + printed)[-TAIL:]
+        return printed
+
+    def refusal(self):
+        """the refusal that ended it, or None"""
+        return _answer(self.name, self.source, self.process.wait(), self.tail)
+
+    def end(self):
+        """leaves nothing behind"""
+        if self.process:
+            _end(self.process)
+
+
+def _answer(name, source, status, tail):
+    """the refusal that ended a program, or None, by its exit status and the end of what it printed"""
     if status == NOT_BUILT:
         raise Trouble("the program can't be run on this machine", NOT_BUILT)
     if status != 0:
@@ -57,8 +98,8 @@ def _end(process):
     if process.poll() is None:
         process.kill()
         process.wait()
-    process.stdin.close()
-    process.stdout.close()
+    for stream in filter(None, (process.stdin, process.stdout)):
+        stream.close()
 
 
 def _pump(process, source, take):

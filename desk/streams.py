@@ -43,7 +43,25 @@ def print_out(data):
 
 def say(words):
     """writes to standard error, where a failure has nobody left to be told"""
+    show("")
+    _write_error(f"fireboxer: {words}\n")
+
+
+class _Shown:
+    """how many signs of a passing line stand on the terminal"""
+
+    length = 0
+
+
+def show(words):
+    """a passing line on a terminal, in place of the one before; nothing where standard error is none"""
+    if (words or _Shown.length) and os.isatty(STANDARD_ERROR):
+        _write_error(f"\r{' ' * _Shown.length}\r{words}")
+        _Shown.length = len(words)
+
+
+def _write_error(text):
     try:
-        write_all(STANDARD_ERROR, f"fireboxer: {words}\n".encode("utf-8", "surrogateescape"))
+        write_all(STANDARD_ERROR, text.encode("utf-8", "surrogateescape"))
     except OSError:
         pass

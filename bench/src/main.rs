@@ -1,118 +1,120 @@
-//! Times the settling program beside the second program on whole days: both
-//! settle the same file in the same run, round after round, and the best round
-//! of each counts.
+//! A stopwatch for whole processes: runs commands on files, one after the other.
 //!
-//!     bench ROUNDS SETTLE SECOND DAY..
+//!     bench time ROUNDS COMMAND.. -- FILE..
+//!     bench memory COMMAND.. -- FILE..
 //!
-//! SETTLE and SECOND are commands, their words parted by spaces. Each DAY is a
-//! file; its samples are counted by their lines. The table goes to standard
-//! output. The sheets have to agree before anything is timed.
+//! The words of a COMMAND are parted by spaces. It reads FILE on standard input,
+//! and what it prints is thrown away. For each FILE one line goes to standard
+//! output, with a number for each COMMAND, parted by tabs: the nanoseconds from
+//! the start of the process to its end in the best of ROUNDS, in each of which
+//! all run, so that a slow moment of the machine meets all; or the most memory
+//! that it had at a time, in KiB.
 
 use std::env;
 use std::error::Error;
-use std::fs::{self, File};
-use std::path::Path;
+use std::fs::File;
+use std::os::unix::process::CommandExt;
 use std::process::{Command, ExitCode, Stdio};
-use std::time::{Duration, Instant};
+use std::time::Instant;
 
 fn main() -> ExitCode {
     let arguments: Vec<String> = env::args().skip(1).collect();
-    let [rounds, settle, second, days @ ..] = arguments.as_slice() else {
-        eprintln!("usage: bench ROUNDS SETTLE SECOND DAY..");
-        return ExitCode::from(2);
-    };
-    match rounds.parse() {
-        Ok(rounds) if rounds > 0 => match table(rounds, [settle, second], days) {
-            Ok(()) => ExitCode::SUCCESS,
-            Err(error) => {
-                eprintln!("bench: {error}");
-                ExitCode::FAILURE
-            }
-        },
+    let mut parts = arguments.splitn(2, |word| word == "--");
+    let (before, files) = (parts.next().unwrap_or_default(), parts.next());
+    let measured = match (before, files) {
+        ([mode, rounds, commands @ ..], Some(files)) if mode == "time" => {
+            let Some(rounds) = rounds.parse().ok().filter(|rounds| *rounds > 0) else {
+                eprintln!("bench: ROUNDS has to be a number from 1 on");
+                return ExitCode::from(2);
+            };
+            times(rounds, commands, files)
+        }
+        ([mode, commands @ ..], Some(files)) if mode == "memory" => memory(commands, files),
         _ => {
-            eprintln!("bench: ROUNDS has to be a number from 1 on");
-            ExitCode::from(2)
+            eprintln!(
+                "usage: bench time ROUNDS COMMAND.. -- FILE.., bench memory COMMAND.. -- FILE.."
+            );
+            return ExitCode::from(2);
+        }
+    };
+    match measured {
+        Ok(()) => ExitCode::SUCCESS,
+        Err(error) => {
+            eprintln!("bench: {error}");
+            ExitCode::FAILURE
         }
     }
 }
 
-fn table(rounds: u32, programs: [&str; 2], days: &[String]) -> Result<(), Box<dyn Error>> {
-    println!("| Day | Samples | settle, ns a sample | second, ns a sample | Ratio |");
-    println!("|---|---|---|---|---|");
-    for day in days {
-        let samples = samples_in(day)?;
-        if sheet(programs[0], day)? != sheet(programs[1], day)? {
-            return Err(format!("the sheets of {day} differ").into());
+fn times(rounds: u32, commands: &[String], files: &[String]) -> Result<(), Box<dyn Error>> {
+    for file in files {
+        let mut best = vec![u128::MAX; commands.len()];
+        for _ in 0..rounds {
+            for (command, best) in commands.iter().zip(&mut best) {
+                let mut process = process(command, file)?;
+                let start = Instant::now();
+                wait(&mut process)?;
+                *best = (*best).min(start.elapsed().as_nanos());
+            }
         }
-        let [settle, second] = best_of(rounds, programs, day)?;
-        let per_sample = |time: Duration| time.as_nanos() as f64 / samples as f64;
-        println!(
-            "| {} | {} | {:.0} | {:.0} | {:.1} |",
-            name_of(day),
-            samples,
-            per_sample(settle),
-            per_sample(second),
-            settle.as_secs_f64() / second.as_secs_f64()
-        );
+        print(&best);
     }
     Ok(())
 }
 
-/// The shortest time of each program, in rounds in which both run one after
-/// the other, so that a slow moment of the machine meets both.
-fn best_of(rounds: u32, programs: [&str; 2], day: &str) -> Result<[Duration; 2], Box<dyn Error>> {
-    let mut best = [Duration::MAX; 2];
-    for _ in 0..rounds {
-        for (program, best) in programs.iter().zip(&mut best) {
-            *best = (*best).min(time(program, day)?);
+/// Linux counts the memory of the process that starts another one, too, up to
+/// the moment at which the new program takes its place. So a copy of this one
+/// starts it, which has hardly any; a time would have the copying in it.
+fn memory(commands: &[String], files: &[String]) -> Result<(), Box<dyn Error>> {
+    for file in files {
+        let mut used = Vec::new();
+        for command in commands {
+            let mut process = process(command, file)?;
+            // SAFETY: nothing is done there; that there is something to do has a
+            // copy made.
+            unsafe { process.pre_exec(|| Ok(())) };
+            used.push(wait(&mut process)?);
         }
+        print(&used);
     }
-    Ok(best)
+    Ok(())
 }
 
-/// From the program's start to its end, what it prints thrown away.
-fn time(program: &str, day: &str) -> Result<Duration, Box<dyn Error>> {
-    let input = File::open(day)?;
-    let start = Instant::now();
-    let status = command(program)
-        .stdin(input)
-        .stdout(Stdio::null())
-        .status()?;
-    let took = start.elapsed();
-    if status.success() {
-        Ok(took)
-    } else {
-        Err(format!("{program} failed on {day}").into())
+fn print(numbers: &[impl ToString]) {
+    let numbers: Vec<String> = numbers.iter().map(ToString::to_string).collect();
+    println!("{}", numbers.join("\t"));
+}
+
+fn process(command: &str, file: &str) -> Result<Command, Box<dyn Error>> {
+    let mut words = command.split_whitespace();
+    let mut process = Command::new(words.next().unwrap_or_default());
+    let input = File::open(file)?;
+    process.args(words).stdin(input).stdout(Stdio::null());
+    Ok(process)
+}
+
+/// Runs a process to its end; answers the most memory that it, or one that it
+/// waited for, had at a time, in KiB.
+fn wait(process: &mut Command) -> Result<i64, Box<dyn Error>> {
+    let id = process.spawn()?.id() as i32;
+    let mut status = 0;
+    let mut usage = [0; USAGE_WORDS];
+    // SAFETY: both places are there for the length of the call, and the second
+    // has the size that is written.
+    if unsafe { wait4(id, &mut status, 0, usage.as_mut_ptr()) } != id {
+        return Err(std::io::Error::last_os_error().into());
     }
-}
-
-fn sheet(program: &str, day: &str) -> Result<Vec<u8>, Box<dyn Error>> {
-    let output = command(program).stdin(File::open(day)?).output()?;
-    Ok(output.stdout)
-}
-
-fn command(words: &str) -> Command {
-    let mut words = words.split_whitespace();
-    let mut command = Command::new(words.next().unwrap_or_default());
-    command.args(words);
-    command
-}
-
-fn samples_in(day: &str) -> Result<usize, Box<dyn Error>> {
-    let text = fs::read(day)?;
-    let samples = text
-        .split(|&byte| byte == b'\n')
-        .filter(|line| line.first() == Some(&b'S'));
-    match samples.count() {
-        0 => Err(format!("{day} has no samples").into()),
-        count => Ok(count),
+    if status != 0 {
+        return Err(format!("{process:?} failed").into());
     }
+    Ok(usage[MEMORY_WORD])
 }
 
-fn name_of(day: &str) -> String {
-    let path = Path::new(day);
-    path.file_stem()
-        .unwrap_or(path.as_os_str())
-        .to_string_lossy()
-        .into_owned()
+/// `struct rusage` of Linux on processors of 64 bits: two times of two words, and
+/// fourteen words, of which the first is the memory.
+const USAGE_WORDS: usize = 18;
+const MEMORY_WORD: usize = 4;
+
+extern "C" {
+    fn wait4(id: i32, status: *mut i32, options: i32, usage: *mut i64) -> i32;
 }

@@ -113,8 +113,9 @@ def _settle(path, before, take):
         if not programs.accepted("settle", source, take or sheet.extend):
             return None
         if source.goes_on_after_end():
-            say(f"{source.name}: more follows the end line (line {source.end_line_number()}), and is not read: "
-                "a further day needs an input of its own")
+            # imported here, as refusals are
+            from desk.messages import more_follows
+            say(more_follows(source))
     return sheet
 
 

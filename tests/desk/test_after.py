@@ -97,7 +97,7 @@ class After(FrontEnd):
         self.assertEqual(answer.returncode, 1)
         self.assertTrue(answer.stdout.endswith(b"R\t78\t1\n"))
         for words in ("monday.txt, line 2: refusal 1: ", "counts it as line 78)", "settle it without --after",
-                      "the input has a carry block of its own, and --after put that of sunday.sheet before it"):
+                      "the input has a carry block of its own, and that of sunday.sheet was put before it"):
             self.assertIn(words, answer.stderr)
 
     def test_a_damaged_value_is_told_where_it_stands(self):

@@ -189,7 +189,7 @@ class Words(FrontEnd):
         first = self.call().stdout
         for words in (["help"], ["--help"], ["-h"]):
             self.assertEqual(self.call(*words).stdout, first)
-        for words in (["settle", "--help"], ["help", "settle"], ["settle", "-h", "none"]):
+        for words in (["settle", "--help"], ["help", "settle"], ["settle", "-h", "none"], ["help", "year"]):
             answer = self.call(*words)
             self.assertEqual((answer.returncode, answer.stderr), (0, ""))
             self.assertIn(refusals.help_table(), answer.stdout.decode())

@@ -3,7 +3,7 @@ import contextlib
 import os
 import subprocess
 
-from common import EXAMPLE, FIREBOXER, ROOT, FrontEnd, lines
+from common import DAY, EXAMPLE, FIREBOXER, ROOT, FrontEnd, lines
 
 # in seconds
 START_UP = 0.060
@@ -48,3 +48,11 @@ class Cost(FrontEnd):
                 status, usage = run([FIREBOXER, "settle"], parts)
                 self.assertEqual(status, 1)
                 self.assertLess(usage.ru_maxrss, MEMORY)
+
+    def test_memory_of_a_year(self):
+        for number in range(60):
+            (self.folder / f"{number}.txt").symlink_to(DAY)
+        for words in ([], ["--carry", "--overwrite"]):
+            status, usage = run([FIREBOXER, "year", self.folder, *words], [])
+            self.assertEqual(status, 0)
+            self.assertLess(usage.ru_maxrss, MEMORY)

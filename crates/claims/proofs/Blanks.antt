@@ -2,19 +2,11 @@
 -- Assumes nothing.
 use mathlib.Core.Path.{_≡_, refl}
 use lib.ListN.{length}
-use Rattle.claims.specs.Blank.{noSamples, noPowers, noClaims, noEnergies}
+use Rattle.claims.specs.Blank.{noClaims, noEnergies}
 
 pub claims-32 : length noClaims ≡ 32
 unfolding noClaims
 claims-32 = refl
-
-pub samples-900 : length noSamples ≡ 900
-unfolding noSamples
-samples-900 = refl
-
-pub powers-900 : length noPowers ≡ 900
-unfolding noPowers
-powers-900 = refl
 
 pub energies-32 : length noEnergies ≡ 32
 unfolding noEnergies

@@ -1,12 +1,13 @@
 pub mod Blanks
-pub mod PowerLaws
 pub mod Cuts
 pub mod Joining
+pub mod PowerLaws
+pub mod Viewing
 pub mod Rests
+pub mod Portions
 pub mod Claims
 pub mod Cap
 pub mod Prefix
 pub mod Quarters
 pub mod Following
 pub mod History
-pub mod ViewLaws

@@ -1,77 +1,85 @@
--- A quarter hour as the code holds it. That its energies are those in the words of the rules is a law (proofs/ViewLaws).
-use Prim.Native.Nat.{ℕ, _*_, _-_}
-use mathlib.Core.List.{List, _++_}
+-- A quarter hour as the code goes through it: what a direction sees of each sample, the sums over it, and the energies by them. That these are the energies
+-- in the words of the rules is a law (proofs/Portions).
+use Prim.Native.Nat.{ℕ, _+_, _*_, _-_, _%_, _^_}
+use mathlib.Core.Bool.{Bool, cond, _&&_}
+use mathlib.Core.List.{List, [], _∷_, _++_}
+use lib.Dec.{eqb}
 use lib.IntN.{ℤ, pos}
-use lib.ListN.{length, take, drop, getD}
+use lib.ListN.{take, drop, getD}
 use Rattle.arithmetic.specs.Energy.{kwh, energyOf}
 use Rattle.arithmetic.specs.declared.energy.Kwh.{Kwh}
 use Rattle.series.specs.Scan.{outputs, each}
+use Rattle.series.specs.Sums.{sumOf}
+use Rattle.series.specs.Cuts.{piecesOf}
+use Rattle.series.specs.declared.cutting.Pieces.{Pieces}
 use Rattle.channel.specs.declared.Channel.{Channel}
-use Rattle.vocabulary.specs.declared.interval.Windows.{Windows}
+use Rattle.channel.specs.declared.along.Track.{Track}
 use Rattle.vocabulary.specs.declared.direction.Direction.{Direction}
 use Rattle.vocabulary.specs.declared.direction.Direction.the-variants.{Positive, Negative}
 use Rattle.values.specs.declared.value.Quantity.{Quantity}
+use Rattle.values.specs.declared.value.Quantity.the-variants.{Setpoint, Actual, Acceptance, Surplus, UnderDelivery, Inner, Floor, Kept}
 use Rattle.values.specs.declared.part.Part.{Part}
 use Rattle.values.specs.Part.{partOf, amountOf}
 use Rattle.contracts.specs.declared.terms.Terms.{Terms}
 use Rattle.claims.specs.declared.claim.Claim.{Claim}
-use Rattle.claims.specs.declared.view.View.{View}
-use Rattle.claims.specs.declared.view.BoundedSample.{BoundedSample}
-use Rattle.claims.specs.declared.view.Followed.{Followed}
-use Rattle.claims.specs.Blank.{noSamples}
-use Rattle.channel.specs.Along.{channelAfter}
-use Rattle.claims.specs.Powers.{Samples, next}
-use Rattle.claims.specs.Claims.{samplesAlong, claimFrom, energiesOf}
+use Rattle.claims.specs.declared.claim.Rest.{Rest}
+use Rattle.claims.specs.declared.view.Amounts.{Amounts}
+use Rattle.claims.specs.declared.energies.Sums.{Sums}
+use Rattle.claims.specs.declared.energies.Slices.{Slices}
+use Rattle.claims.specs.declared.energies.Portions.{Portions}
 use Rattle.claims.specs.declared.hour.Energies.{Energies}
 use Rattle.claims.specs.declared.hour.Measured.{Measured}
+use Rattle.claims.specs.Blank.{noClaims}
+use Rattle.claims.specs.Powers.{Samples, samples, next, powersOf}
+use Rattle.claims.specs.Claims.{claimFrom, energiesOf}
+
+-- ---- what a direction sees
 
 -- the part of a sample that a direction sees
 abbrev pub partAt : Direction → Samples → ℕ → ℤ → Part
 partAt d x i s = partOf d s (getD (x .actuals) i (pos 0)) (getD (x .ogas) i (pos 0)) (getD (x .ugas) i (pos 0))
 
--- a sample with the bounds at it
-abbrev pub sampleWith : ℤ → ℤ → ℤ → ℤ → BoundedSample
-sampleWith s v oga uga = record { setpoint = s; actual = v; oga = record { 0 = oga }; uga = record { 0 = uga } }
+-- that of each sample
+abbrev pub partsOf : Direction → Samples → List Part
+partsOf d x = outputs next (partAt d x) 0 (x .setpoints)
 
--- each sample with the bounds at it
-abbrev pub sampleAt : Samples → ℕ → ℤ → BoundedSample
-sampleAt x i s = sampleWith s (getD (x .actuals) i (pos 0)) (getD (x .ogas) i (pos 0)) (getD (x .ugas) i (pos 0))
+-- nothing is on a part
+unfoldable pub idleOf : Part → Bool
+idleOf p = eqb (p .setpoint) 0 && (eqb (p .actual) 0 && eqb (p .inner .0) 0)
 
-abbrev pub heldIn : Samples → List BoundedSample
-heldIn x = outputs next (sampleAt x) 0 (x .setpoints)
+-- the parts that something is on
+unfoldable pub busyOf : List Part → List Part
+busyOf [] = []
+busyOf (p ∷ ps) = cond (idleOf p) (busyOf ps) (p ∷ busyOf ps)
 
--- the samples along the setpoints, and the channel after them
-unfoldable pub followedOf : Channel → List ℤ → List ℤ → Followed
-followedOf ch ss vs =
-    record { channel = channelAfter ch ss; samples = heldIn (samplesAlong ch ss vs) ++ drop (length ss) noSamples }
-
-abbrev pub viewOf : Direction → List BoundedSample → Windows → View
-viewOf d l w = record { direction = d; samples = l; count = w .samples; seconds = w .seconds }
-
--- a quantity of a sample, and of each sample of a view
-abbrev pub powerIn : Direction → Quantity → BoundedSample → ℕ
-powerIn d q x = amountOf q (partOf d (x .setpoint) (x .actual) (x .oga .0) (x .uga .0))
-
-abbrev pub powersIn : View → Quantity → List ℕ
-powersIn x q = each (powerIn (x .direction) q) (take (x .count) (x .samples))
-
--- the energies of a view, and of both views of samples that a channel has followed
-abbrev pub energiesIn : View → List Terms → Energies
-energiesIn x ts = energiesOf (x .seconds) (powersIn x) ts
-
-abbrev pub measuredIn : Followed → Windows → List Terms → List Terms → Measured
-measuredIn f w ps ns =
+unfoldable pub amountsOf : Part → Amounts
+amountsOf p =
     record {
-      channel = f .channel;
-      positive = energiesIn (viewOf Positive (f .samples) w) ps;
-      negative = energiesIn (viewOf Negative (f .samples) w) ns;
+      setpoint = amountOf Setpoint p;
+      actual = amountOf Actual p;
+      acceptance = amountOf Acceptance p;
+      surplus = amountOf Surplus p;
+      «under_delivery» = amountOf UnderDelivery p;
+      inner = amountOf Inner p;
+      floor = amountOf Floor p;
+      kept = amountOf Kept p;
     }
 
--- ---- sums and energies of all contracts, place by place
+-- ---- the sums
 
--- the energy of a sum
-unfoldable pub energyHeld : ℕ → ℕ → Kwh
-energyHeld seconds sum = energyOf (seconds * sum)
+-- what is summed over a quarter hour, as 64 bits hold it
+unfoldable pub sumsOf : (Quantity → List ℕ) → List ℕ → Sums
+sumsOf powers limits =
+    record {
+      setpoint = piecesOf limits (powers Setpoint);
+      actual = piecesOf limits (powers Actual);
+      acceptance = piecesOf limits (powers Acceptance);
+      floor = piecesOf limits (powers Floor);
+      inner = piecesOf limits (powers Inner);
+      kept = piecesOf limits (powers Kept);
+      surplus = sumOf (powers Surplus) % 2 ^ 64;
+      «under_delivery» = sumOf (powers UnderDelivery) % 2 ^ 64;
+    }
 
 -- what sums have above others; - stops at 0
 unfoldable pub lessAt : List ℕ → ℕ → ℕ → ℕ
@@ -80,6 +88,36 @@ lessAt others k sum = sum - getD others k 0
 abbrev pub lessOf : List ℕ → List ℕ → List ℕ
 lessOf sums others = outputs next (lessAt others) 0 sums
 
+abbrev pub shortOf : Pieces → Pieces → Pieces
+shortOf all part = record { sums = lessOf (all .sums) (part .sums); rest = all .rest - part .rest }
+
+-- the slices and the rest together
+abbrev pub wholeOf : Pieces → ℕ
+wholeOf p = sumOf (p .sums) + p .rest
+
+-- ---- the energies
+
+-- the energy of a sum
+unfoldable pub energyHeld : ℕ → ℕ → Kwh
+energyHeld seconds sum = energyOf (seconds * sum)
+
+unfoldable pub slicesOf : ℕ → Pieces → Slices
+slicesOf seconds p =
+    record { contracts = each (energyHeld seconds) (p .sums); rest = energyHeld seconds (p .rest); whole = energyHeld seconds (wholeOf p) }
+
+unfoldable pub portionsOf : ℕ → Sums → Portions
+portionsOf seconds s =
+    record {
+      setpoint = slicesOf seconds (s .setpoint);
+      actual = slicesOf seconds (s .actual);
+      acceptance = slicesOf seconds (s .acceptance);
+      floor = slicesOf seconds (s .floor);
+      shortfall = slicesOf seconds (shortOf (s .inner) (s .kept));
+    }
+
+abbrev pub restIn : Portions → Rest
+restIn p = record { setpoint = p .setpoint .rest; actual = p .actual .rest; acceptance = p .acceptance .rest }
+
 -- the claims by energies that are listed by place
 unfoldable pub claimAt : List Kwh → List Kwh → List Kwh → List Kwh → ℕ → Kwh → Claim
 claimAt actuals acceptances floors shortfalls k setpoint =
@@ -87,3 +125,37 @@ claimAt actuals acceptances floors shortfalls k setpoint =
 
 abbrev pub joinedOf : List Kwh → List Kwh → List Kwh → List Kwh → List Kwh → List Claim
 joinedOf actuals acceptances floors shortfalls = outputs next (claimAt actuals acceptances floors shortfalls) 0
+
+unfoldable pub claimsBy : Portions → ℕ → List Claim
+claimsBy p count =
+    joinedOf (p .actual .contracts) (p .acceptance .contracts) (p .floor .contracts) (p .shortfall .contracts) (take count (p .setpoint .contracts))
+    ++ drop count noClaims
+
+unfoldable pub energiesBy : ℕ → Sums → ℕ → Energies
+energiesBy seconds s count =
+    let p = portionsOf seconds s in
+    record {
+      setpoint = p .setpoint .whole;
+      actual = p .actual .whole;
+      acceptance = p .acceptance .whole;
+      surplus = energyHeld seconds (s .surplus);
+      shortfall = p .shortfall .whole;
+      «under_delivery» = energyHeld seconds (s .«under_delivery»);
+      rest = restIn p;
+      claims = claimsBy p count;
+    }
+
+-- ---- both directions
+
+-- the samples at the start of two arrays, with the bounds of a track
+abbrev pub samplesIn : Track → ℕ → List ℤ → List ℤ → Samples
+samplesIn t n ss vs = samples (take n ss) (take n vs) (take n (t .ogas)) (take n (t .ugas))
+
+-- the energies of samples, and the channel after them
+abbrev pub measuredIn : Channel → ℕ → Samples → List Terms → List Terms → Measured
+measuredIn after seconds x positive negative =
+    record {
+      channel = after;
+      positive = energiesOf seconds (powersOf Positive x) positive;
+      negative = energiesOf seconds (powersOf Negative x) negative;
+    }

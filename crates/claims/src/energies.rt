@@ -1,44 +1,107 @@
-// The energies of a quarter hour in one direction, of the pool and of each contract: each quantity is cut once, at the limits of all contracts.
-use crate::claim::Claim;
+// The sums of a quarter hour in one direction, each quantity cut once at the limits of all contracts, and the energies that they come to.
 use crate::claim::Rest;
-use crate::claim::joined;
-use crate::view::View;
+use crate::view::viewed;
 use arithmetic::energy::Kwh;
 use arithmetic::energy::energy;
 use arithmetic::whole::excess;
-use contracts::terms::Terms;
-use contracts::terms::limits;
 use series::cutting::Pieces;
 use series::cutting::cut;
-use values::value::Quantity;
+use vocabulary::direction::Direction;
 ghost use mathlib.Core.Path.{_≡_};
-ghost use Prim.Native.Nat.{ℕ, _*_, _≤_, _<_, _^_};
-ghost use lib.ListN.{take, getD};
-ghost use Rattle.arithmetic.specs.Energy.{kwh};
+ghost use Prim.Native.Nat.{ℕ, _+_, _*_, _≤_, _<_, _^_};
+ghost use lib.ListN.{length, take, getD};
+ghost use Rattle.series.specs.Sums.{sumOf};
 ghost use Rattle.series.specs.Scan.{each};
-ghost use Rattle.series.specs.Cuts.{cutAt, piecesOf};
-ghost use Rattle.values.specs.declared.value.Quantity.the-variants.{Inner, Covered};
-ghost use Rattle.claims.specs.Claims.{lackEnergy, poolEnergy, claimedOf};
-ghost use Rattle.claims.specs.Views.{powersIn, energyHeld, lessOf};
+ghost use Rattle.claims.specs.Powers.{samples, powersOf};
+ghost use Rattle.claims.specs.Views.{sumsOf, energyHeld, lessOf, shortOf, slicesOf, portionsOf, restIn};
 ghost use Rattle.claims.specs.Blank.{noEnergies};
-ghost use Rattle.claims.specs.Room.{Timely, Small, Sliced};
+ghost use Rattle.claims.specs.Room.{Level, Fitting, Fits, AllFit};
 
-// The energy of a quantity: each contract's, and that above the last limit.
+// The sums over a quarter hour: of what the contracts have slices of, by slice, and of the others.
+pub struct Sums {
+    pub setpoint: Pieces,
+    pub actual: Pieces,
+    pub acceptance: Pieces,
+    pub floor: Pieces,
+    pub inner: Pieces,
+    pub kept: Pieces,
+    pub surplus: u64,
+    pub under_delivery: u64,
+}
+
+// The energy of a quantity: each contract's, that above the last limit, and all of it.
 pub struct Slices {
     pub contracts: [Kwh; 32],
     pub rest: Kwh,
+    pub whole: Kwh,
 }
 
-// What the contracts of a direction claim, and what none does.
-pub struct Claimed {
-    pub claims: [Claim; 32],
-    pub rest: Rest,
+// Those of each quantity that contracts have slices of.
+pub struct Portions {
+    pub setpoint: Slices,
+    pub actual: Slices,
+    pub acceptance: Slices,
+    pub floor: Slices,
+    pub shortfall: Slices,
+}
+
+fn no_powers() -> [u64; 900]
+    ensures { λ r. ⌜ length r ≡ 900 ⌝ }
+{
+    [0u64; 900]
 }
 
 fn no_energies() -> [Kwh; 32]
     ensures { λ r. ⌜ r ≡ noEnergies ⌝ }
 {
     [Kwh(0); 32]
+}
+
+// The sums of a direction, at the first `count` limits.
+pub(crate) fn summed(
+    direction: Direction,
+    setpoints: &[i32],
+    actuals: &[i32],
+    ogas: &[i64],
+    ugas: &[i64],
+    upper: [u64; 32],
+    count: usize,
+) -> Sums
+    requires { ⌜ Level (samples (now setpoints) (now actuals) (now ogas) (now ugas)) ⌝ }
+    ensures { λ r. ⌜ (r ≡ sumsOf (powersOf direction (samples (now (setpoints .entry)) (now (actuals .entry)) (now (ogas .entry)) (now (ugas .entry)))) (take count upper))
+        × Fitting (now (setpoints .entry)) (now (actuals .entry)) (length (now (setpoints .entry))) ⌝ }
+{
+    let blank = no_powers();
+    let mut asked = blank;
+    let mut delivered = blank;
+    let mut accepted = blank;
+    let mut required = blank;
+    let mut inner = blank;
+    let mut kept = blank;
+    let seen = viewed(
+        direction,
+        setpoints,
+        actuals,
+        ogas,
+        ugas,
+        &mut asked,
+        &mut delivered,
+        &mut accepted,
+        &mut required,
+        &mut inner,
+        &mut kept,
+    );
+    let n = seen.count;
+    Sums {
+        setpoint: cut(&asked[..n], upper, count),
+        actual: cut(&delivered[..n], upper, count),
+        acceptance: cut(&accepted[..n], upper, count),
+        floor: cut(&required[..n], upper, count),
+        inner: cut(&inner[..n], upper, count),
+        kept: cut(&kept[..n], upper, count),
+        surplus: seen.surplus,
+        under_delivery: seen.under_delivery,
+    }
 }
 
 // The energy of each sum.
@@ -68,9 +131,72 @@ fn excesses(sums: [u64; 32], others: [u64; 32]) -> [u64; 32]
     out
 }
 
-fn rest(setpoint: Slices, actual: Slices, acceptance: Slices) -> Rest
-    ensures { λ r. ⌜ r ≡ record { setpoint = setpoint .rest; actual = actual .rest; acceptance = acceptance .rest } ⌝ }
+// The slices and the rest, which make the whole (proofs/Rests).
+fn total(sums: [u64; 32], rest: u64) -> u64
+    requires { ⌜ sumOf sums + rest < 2 ^ 64 ⌝ }
+    ensures { λ r. ⌜ r ≡ sumOf sums + rest ⌝ }
 {
+    let mut sum = rest;
+    let mut k: usize = 0;
+    while k < 32 {
+        sum += sums[k];
+        k += 1;
+    }
+    sum
+}
+
+// What the pieces of one series have above those of another.
+fn short(all: Pieces, part: Pieces) -> Pieces
+    ensures { λ r. ⌜ r ≡ shortOf all part ⌝ }
+{
+    let sums = all.sums;
+    let others = part.sums;
+    Pieces {
+        sums: excesses(sums, others),
+        rest: excess(all.rest, part.rest),
+    }
+}
+
+// The energies of pieces.
+fn sliced(pieces: Pieces, seconds: u64) -> Slices
+    requires { ⌜ Fits seconds pieces ⌝ }
+    ensures { λ r. ⌜ r ≡ slicesOf seconds pieces ⌝ }
+{
+    let sums = pieces.sums;
+    Slices {
+        contracts: energies(sums, seconds),
+        rest: energy(seconds * pieces.rest),
+        whole: energy(seconds * total(sums, pieces.rest)),
+    }
+}
+
+// The energies of all of them. What is short of the inner bound is what its pieces have above those of what is kept.
+pub(crate) fn portioned(sums: Sums, seconds: u64) -> Portions
+    requires { ⌜ AllFit seconds sums ⌝ }
+    ensures { λ r. ⌜ r ≡ portionsOf seconds sums ⌝ }
+{
+    let setpoint = sums.setpoint;
+    let actual = sums.actual;
+    let acceptance = sums.acceptance;
+    let floor = sums.floor;
+    let inner = sums.inner;
+    let kept = sums.kept;
+    Portions {
+        setpoint: sliced(setpoint, seconds),
+        actual: sliced(actual, seconds),
+        acceptance: sliced(acceptance, seconds),
+        floor: sliced(floor, seconds),
+        shortfall: sliced(short(inner, kept), seconds),
+    }
+}
+
+// What no contract takes.
+pub(crate) fn rest(portions: Portions) -> Rest
+    ensures { λ r. ⌜ r ≡ restIn portions ⌝ }
+{
+    let setpoint = portions.setpoint;
+    let actual = portions.actual;
+    let acceptance = portions.acceptance;
     let asked = setpoint.rest;
     let delivered = actual.rest;
     let accepted = acceptance.rest;
@@ -78,71 +204,5 @@ fn rest(setpoint: Slices, actual: Slices, acceptance: Slices) -> Rest
         setpoint: asked,
         actual: delivered,
         acceptance: accepted,
-    }
-}
-
-impl View {
-    // The sums of a quantity's slices, and of the rest above the last limit.
-    fn pieces(self, quantity: Quantity, upper: [u64; 32], count: usize) -> Pieces
-        requires { ⌜ Timely self ⌝ }
-        ensures { λ r. ⌜ (r ≡ piecesOf (take count upper) (powersIn self quantity)) × Small (self .seconds) (powersIn self quantity) ⌝ }
-    {
-        let n = self.count;
-        let all = self.powers(quantity);
-        cut(&all[..n], upper, count)
-    }
-
-    // The pool's energy of a quantity: with no limit at all, the rest is the whole series.
-    pub(crate) fn energy(self, quantity: Quantity) -> Kwh
-        requires { ⌜ Timely self ⌝ }
-        ensures { λ r. ⌜ r ≡ poolEnergy (self .seconds) (powersIn self quantity) ⌝ }
-    {
-        let pieces = self.pieces(quantity, [0u64; 32], 0);
-        energy(self.seconds * pieces.rest)
-    }
-
-    // The energy of each contract's slice of a quantity, and of the rest.
-    fn slices(self, quantity: Quantity, upper: [u64; 32], count: usize) -> Slices
-        requires { ⌜ (count ≤ 32) × Timely self ⌝ }
-        ensures { λ r. ⌜ Sliced (self .seconds) (powersIn self quantity) upper count r ⌝ }
-    {
-        let pieces = self.pieces(quantity, upper, count);
-        let sums = pieces.sums;
-        let contracts = energies(sums, self.seconds);
-        let rest = energy(self.seconds * pieces.rest);
-        Slices { contracts, rest }
-    }
-
-    // The energy that each contract is short of: what its slice of what is kept lacks of its slice of the channel's inner bound.
-    fn shortfalls(self, upper: [u64; 32], count: usize) -> [Kwh; 32]
-        requires { ⌜ (count ≤ 32) × Timely self ⌝ }
-        ensures { λ r. ⌜ ((k : ℕ) → k < count → getD r k (kwh 0) ≡ lackEnergy (self .seconds) (powersIn self Inner) (powersIn self Covered) (cutAt upper k)) ⌝ }
-    {
-        let inner = self.pieces(Quantity::Inner, upper, count);
-        let kept = self.pieces(Quantity::Kept, upper, count);
-        let all = inner.sums;
-        let part = kept.sums;
-        energies(excesses(all, part), self.seconds)
-    }
-
-    // The claims of the direction's contracts, and the rest: one cut for each quantity, two for the shortfall.
-    pub(crate) fn claims(self, terms: [Terms; 32], count: usize) -> Claimed
-        requires { ⌜ (count ≤ 32) × Timely self ⌝ }
-        ensures { λ r. ⌜ r ≡ claimedOf (self .seconds) (powersIn self) (take count terms) ⌝ }
-    {
-        let upper = limits(terms);
-        let setpoint = self.slices(Quantity::Setpoint, upper, count);
-        let actual = self.slices(Quantity::Actual, upper, count);
-        let acceptance = self.slices(Quantity::Acceptance, upper, count);
-        let floor = self.slices(Quantity::Floor, upper, count);
-        let setpoints = setpoint.contracts;
-        let actuals = actual.contracts;
-        let acceptances = acceptance.contracts;
-        let floors = floor.contracts;
-        let shortfalls = self.shortfalls(upper, count);
-        Claimed {
-            claims: joined(setpoints, actuals, acceptances, floors, shortfalls, count),
-            rest: rest(setpoint, actual, acceptance),
-        }
     }
 }

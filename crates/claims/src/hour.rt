@@ -1,28 +1,27 @@
 // The energies of a quarter hour in both directions, and the channel after it.
 use crate::claim::Claim;
 use crate::claim::Rest;
-use crate::view::BoundedSample;
-use crate::view::Followed;
-use crate::view::View;
-use crate::view::follow;
+use crate::claim::joined;
+use crate::energies::Portions;
+use crate::energies::Sums;
+use crate::energies::portioned;
+use crate::energies::rest;
+use crate::energies::summed;
 use arithmetic::energy::Kwh;
+use arithmetic::energy::energy;
 use channel::Channel;
+use channel::along::Track;
 use contracts::book::Book;
-use contracts::terms::Terms;
-use values::value::Quantity;
+use contracts::terms::limits;
 use vocabulary::direction::Direction;
 use vocabulary::interval::Windows;
 ghost use mathlib.Core.Path.{_≡_};
 ghost use Prim.Native.Nat.{_≤_};
-ghost use lib.ListN.{take};
-ghost use Rattle.vocabulary.specs.declared.direction.Direction.the-variants.{Positive, Negative};
 ghost use Rattle.contracts.specs.Terms.{termsIn};
-ghost use Rattle.claims.specs.Claims.{measuredHeld};
-ghost use Rattle.claims.specs.Views.{viewOf, energiesIn, measuredIn};
-ghost use Rattle.claims.specs.Room.{Timely};
-ghost use Rattle.claims.specs.declared.view.Followed.{Followed};
-ghost use Rattle.claims.specs.declared.hour.Energies.{Energies};
-ghost use Rattle.claims.specs.declared.hour.Measured.{Measured};
+ghost use Rattle.claims.specs.Powers.{samples, powersOf};
+ghost use Rattle.claims.specs.Claims.{energiesOf, measuredHeld};
+ghost use Rattle.claims.specs.Views.{claimsBy, energiesBy, samplesIn, measuredIn};
+ghost use Rattle.claims.specs.Room.{AllFit, Timely, Led};
 
 // The energies of one direction: the pool's, what no contract takes, and each contract's claim. Under-delivery and shortfall are the pool's own, and not the contracts' sums.
 pub struct Energies {
@@ -43,68 +42,135 @@ pub struct Measured {
     pub negative: Energies,
 }
 
-impl View {
-    // The energies of a direction.
-    fn energies(self, terms: [Terms; 32], count: usize) -> Energies
-        requires { ⌜ (count ≤ 32) × Timely self ⌝ }
-        ensures { λ r. ⌜ r ≡ energiesIn self (take count terms) ⌝ }
-    {
-        let setpoint = self.energy(Quantity::Setpoint);
-        let actual = self.energy(Quantity::Actual);
-        let acceptance = self.energy(Quantity::Acceptance);
-        let surplus = self.energy(Quantity::Surplus);
-        let shortfall = self.energy(Quantity::Shortfall);
-        let under_delivery = self.energy(Quantity::UnderDelivery);
-        let claimed = self.claims(terms, count);
-        let rest = claimed.rest;
-        let claims = claimed.claims;
-        Energies {
-            setpoint: setpoint,
-            actual: actual,
-            acceptance: acceptance,
-            surplus: surplus,
-            shortfall: shortfall,
-            under_delivery: under_delivery,
-            rest: rest,
-            claims: claims,
-        }
+// The claims of the first `count` contracts, by what each has of each quantity.
+fn claims(portions: Portions, count: usize) -> [Claim; 32]
+    requires { ⌜ count ≤ 32 ⌝ }
+    ensures { λ r. ⌜ r ≡ claimsBy portions count ⌝ }
+{
+    let setpoint = portions.setpoint;
+    let actual = portions.actual;
+    let acceptance = portions.acceptance;
+    let floor = portions.floor;
+    let shortfall = portions.shortfall;
+    let setpoints = setpoint.contracts;
+    let actuals = actual.contracts;
+    let acceptances = acceptance.contracts;
+    let floors = floor.contracts;
+    let shortfalls = shortfall.contracts;
+    joined(setpoints, actuals, acceptances, floors, shortfalls, count)
+}
+
+// The energies of a direction, by its sums.
+fn energies_by(sums: Sums, seconds: u64, count: usize) -> Energies
+    requires { ⌜ (count ≤ 32) × AllFit seconds sums ⌝ }
+    ensures { λ r. ⌜ r ≡ energiesBy seconds sums count ⌝ }
+{
+    let portions = portioned(sums, seconds);
+    let setpoint = portions.setpoint;
+    let actual = portions.actual;
+    let acceptance = portions.acceptance;
+    let shortfall = portions.shortfall;
+    let asked = setpoint.whole;
+    let delivered = actual.whole;
+    let accepted = acceptance.whole;
+    let missing = shortfall.whole;
+    Energies {
+        setpoint: asked,
+        actual: delivered,
+        acceptance: accepted,
+        surplus: energy(seconds * sums.surplus),
+        shortfall: missing,
+        under_delivery: energy(seconds * sums.under_delivery),
+        rest: rest(portions),
+        claims: claims(portions, count),
     }
 }
 
-// The same, for the contracts of a list.
+// The energies of the samples in one direction, for the contracts of a list.
 fn listed(
     direction: Direction,
-    samples: [BoundedSample; 900],
-    windows: Windows,
+    setpoints: &[i32],
+    actuals: &[i32],
+    ogas: &[i64],
+    ugas: &[i64],
+    seconds: u64,
     book: Book,
 ) -> Energies
-    requires { ⌜ Timely (viewOf direction samples windows) ⌝ }
-    ensures { λ r. ⌜ r ≡ energiesIn (viewOf direction samples windows) (termsIn book) ⌝ }
+    requires { ⌜ Timely (samples (now setpoints) (now actuals) (now ogas) (now ugas)) seconds ⌝ }
+    ensures { λ r. ⌜ r ≡ energiesOf seconds (powersOf direction (samples (now (setpoints .entry)) (now (actuals .entry)) (now (ogas .entry)) (now (ugas .entry)))) (termsIn book) ⌝ }
 {
-    let seconds = windows.seconds as u64;
-    let view = View {
-        direction: direction,
-        samples: samples,
-        count: windows.samples,
-        seconds: seconds,
-    };
-    view.energies(book.terms(), book.held())
+    let upper = limits(book.terms());
+    let count = book.held();
+    let sums = summed(direction, setpoints, actuals, ogas, ugas, upper, count);
+    energies_by(sums, seconds, count)
 }
 
-// The energies of the samples that a channel has followed.
-fn both(followed: Followed, windows: Windows, positive: Book, negative: Book) -> Measured
-    requires { ⌜ Timely (viewOf Positive (followed .samples) windows) × Timely (viewOf Negative (followed .samples) windows) ⌝ }
-    ensures { λ r. ⌜ r ≡ measuredIn followed windows (termsIn positive) (termsIn negative) ⌝ }
+// Those of both directions.
+fn both(
+    after: Channel,
+    setpoints: &[i32],
+    actuals: &[i32],
+    ogas: &[i64],
+    ugas: &[i64],
+    seconds: u64,
+    positive: Book,
+    negative: Book,
+) -> Measured
+    requires { ⌜ Timely (samples (now setpoints) (now actuals) (now ogas) (now ugas)) seconds ⌝ }
+    ensures { λ r. ⌜ r ≡ measuredIn after seconds (samples (now (setpoints .entry)) (now (actuals .entry)) (now (ogas .entry)) (now (ugas .entry))) (termsIn positive) (termsIn negative) ⌝ }
 {
-    let after = followed.channel;
-    let samples = followed.samples;
-    let above = listed(Direction::Positive, samples, windows, positive);
-    let below = listed(Direction::Negative, samples, windows, negative);
+    let above = listed(
+        Direction::Positive,
+        setpoints,
+        actuals,
+        ogas,
+        ugas,
+        seconds,
+        positive,
+    );
+    let below = listed(
+        Direction::Negative,
+        setpoints,
+        actuals,
+        ogas,
+        ugas,
+        seconds,
+        negative,
+    );
     Measured {
         channel: after,
         positive: above,
         negative: below,
     }
+}
+
+// A quarter hour that a channel was led along.
+fn led(
+    track: Track,
+    windows: Windows,
+    setpoints: [i32; 900],
+    actuals: [i32; 900],
+    positive: Book,
+    negative: Book,
+) -> Measured
+    requires { ⌜ Led track (windows .samples) × Timely (samplesIn track (windows .samples) setpoints actuals) (windows .seconds) ⌝ }
+    ensures { λ r. ⌜ r ≡ measuredIn (track .channel) (windows .seconds) (samplesIn track (windows .samples) setpoints actuals) (termsIn positive) (termsIn negative) ⌝ }
+{
+    let after = track.channel;
+    let ogas = track.ogas;
+    let ugas = track.ugas;
+    let n = windows.samples;
+    let seconds = windows.seconds as u64;
+    both(
+        after,
+        &setpoints[..n],
+        &actuals[..n],
+        &ogas[..n],
+        &ugas[..n],
+        seconds,
+        positive,
+        negative,
+    )
 }
 
 // The quarter hour that a run holds: as many samples from the start of the arrays as the channel's interval has.
@@ -119,6 +185,6 @@ pub fn measure(
 {
     let interval = channel.interval();
     let windows = interval.windows();
-    let followed = follow(channel.sized(), setpoints, actuals, windows.samples);
-    both(followed, windows, positive, negative)
+    let track = channel.sized().along(setpoints, windows.samples);
+    led(track, windows, setpoints, actuals, positive, negative)
 }

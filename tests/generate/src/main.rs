@@ -1,9 +1,11 @@
 //! Writes test inputs for the settling program: `generate SEED` one input that
 //! is the same for the same seed, sound or damaged about as often; `generate
-//! day INTERVAL CONTRACTS` one whole day; `generate join SEED PART` a run that is
-//! cut in two, where PART is `first`, `second` (to which the carry block that the
-//! first printed is still to be put) or `both`. `generate calls SEED` writes a
-//! script of library calls.
+//! day INTERVAL CONTRACTS [SHAPE [NUMBER]]` one whole day, where SHAPE is `walk`
+//! (as without one), `calm` or `steps`, and NUMBER, from 1 to 365, makes it that
+//! day of a year of which no two days are the same; `generate join SEED PART` a
+//! run that is cut in two, where PART is `first`, `second` (to which the carry
+//! block that the first printed is still to be put) or `both`. `generate calls
+//! SEED` writes a script of library calls.
 
 mod block;
 mod calls;
@@ -18,13 +20,16 @@ use std::env;
 use std::io::{self, Write};
 use std::process::ExitCode;
 
+use day::{Shape, SHAPES};
 use plan::Plan;
 use random::Random;
 
 fn main() -> ExitCode {
     let arguments: Vec<String> = env::args().skip(1).collect();
     let text = match arguments.as_slice() {
-        [mode, interval, contracts] if mode == "day" => day_of(interval, contracts),
+        [mode, interval, contracts, which @ ..] if mode == "day" => {
+            day_of(interval, contracts, which)
+        }
         [mode, seed, part] if mode == "join" => part_of_join(seed, part),
         [mode, seed] if mode == "calls" => seed.parse().ok().map(calls::script),
         [seed] => seed.parse().ok().map(input),
@@ -43,17 +48,30 @@ fn usage() -> ExitCode {
     let _ = writeln!(
         io::stderr(),
         "usage: generate SEED, generate calls SEED, generate join SEED first|second|both, \
-         or generate day INTERVAL CONTRACTS"
+         or generate day INTERVAL CONTRACTS [walk|calm|steps [NUMBER]]"
     );
     ExitCode::from(2)
 }
 
 /// A day with an interval of 1, 3 or 4 seconds and 1 to 32 contracts a
-/// direction.
-fn day_of(interval: &str, contracts: &str) -> Option<Vec<u8>> {
+/// direction, and perhaps a shape and the number of a day.
+fn day_of(interval: &str, contracts: &str, which: &[String]) -> Option<Vec<u8>> {
     let interval = interval.parse().ok().filter(|i| [1, 3, 4].contains(i))?;
     let contracts = contracts.parse().ok().filter(|c| (1..=32).contains(c))?;
-    Some(day::write(interval, contracts))
+    let (shape, number) = match which {
+        [] => (&SHAPES[0], None),
+        [shape] => (shape_called(shape)?, None),
+        [shape, number] => {
+            let number = number.parse().ok().filter(|n| (1..=365).contains(n))?;
+            (shape_called(shape)?, Some(number))
+        }
+        _ => return None,
+    };
+    Some(day::write(interval, contracts, shape, number))
+}
+
+fn shape_called(name: &str) -> Option<&'static Shape> {
+    SHAPES.iter().find(|shape| shape.name == name)
 }
 
 fn part_of_join(seed: &str, part: &str) -> Option<Vec<u8>> {
@@ -183,8 +201,9 @@ mod tests {
 
     #[test]
     fn the_day_is_whole() {
-        for (interval, contracts) in [(1, 8), (3, 1), (4, 32)] {
-            let day = day::write(interval, contracts);
+        let kinds = [(1, 8), (3, 1), (4, 32)];
+        for ((interval, contracts), shape) in kinds.into_iter().zip(&SHAPES) {
+            let day = day::write(interval, contracts, shape, None);
             let lines = day.split_inclusive(|&byte| byte == b'\n');
             let samples = 86_400 / interval;
             assert_eq!(lines.count(), 1 + 2 * contracts as usize + samples + 1);

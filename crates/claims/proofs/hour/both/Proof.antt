@@ -1,13 +1,14 @@
 -- `claims::hour::both` meets its contract.
 -- Assumes nothing.
+use borrow.Author.Needs.{needs}
 use Rattle.claims.proofs.hour.both.Statement.{statement}
 use Rattle.claims.proofs.hour.both.Tie as tie
 
 listed-requires : tie.Need-listed-requires
-listed-requires c κs = c .before .before .pre .0
+listed-requires c κs = search needs
 
 listed-requires-2 : tie.Need-listed-requires-2
-listed-requires-2 c κs = c .before .before .before .pre .1
+listed-requires-2 c κs = search needs
 
 returns : tie.Need-returns
 returns c = rw (c .listed2 .ensures, c .before .listed .ensures)

@@ -1,0 +1,267 @@
+-- A part that nothing is on adds nothing to a sum or a slice, so it can be left out; and how the others are written down, sample by sample.
+-- Assumes nothing.
+use mathlib.Core.Path.{_≡_, refl, sym, ap, _∙_}
+use mathlib.Core.Bool.{Bool, true, false, cond, _&&_}
+use mathlib.Core.List.{List, [], _∷_, _++_, append-nil}
+use Prim.Native.Nat.{ℕ, zero, suc, _+_, _-_, _*_, _%_, _^_, _≤_, _<_}
+use native.Mathlib.Omega.{arith}
+use native.Mathlib.Numerals.{add-one}
+use native.Mathlib.Nat.{mod-add-mod, zero-add}
+use borrow.Author.Count.{below-none, below-more}
+use borrow.Author.Tests.{eqb-true}
+use mir.Syntax.{w32}
+use mir.Val.{SFits}
+use lib.Dec.{eqb}
+use lib.IntN.{ℤ, pos}
+use lib.ListN.{length, take, set, getD, length-set, length-append}
+use lib.Seq.{take-suc-set, take-all}
+use Rattle.arithmetic.specs.Whole.{leastOf, mostOf}
+use Rattle.arithmetic.proofs.Booleans.{both}
+use Rattle.series.specs.Sums.{overOf, sumOf}
+use Rattle.series.specs.Slices.{sliceOf}
+use Rattle.series.specs.Scan.{outputs, each}
+use Rattle.series.specs.Cuts.{Cut, cutsOf, lastOf, sumHeld, piecesOf}
+use Rattle.series.proofs.Each.{each-end, each-same}
+use Rattle.series.proofs.Scanned.{outputs-length}
+use Rattle.series.proofs.Sums.{over-snoc}
+use Rattle.vocabulary.specs.declared.direction.Direction.{Direction}
+use Rattle.values.specs.declared.part.Part.{Part}
+use Rattle.values.specs.declared.value.Quantity.{Quantity}
+use Rattle.values.specs.declared.value.Quantity.the-variants.{Setpoint, Actual, Acceptance, Surplus, Shortfall, UnderDelivery, Inner, Floor, Covered, Kept}
+use Rattle.values.specs.Part.{amountOf, acceptanceOf, floorOf, ceilingOf, coveredOf, surplusOf}
+use Rattle.claims.specs.Powers.{Samples, next, powersOf}
+use Rattle.claims.specs.Views.{partAt, partsOf, idleOf, busyOf, sumsOf}
+use Rattle.claims.specs.Room.{Level, Fitting, Faced, Roomy, Written, Viewed}
+use Rattle.claims.proofs.Joining.{along}
+use Rattle.claims.proofs.PowerLaws.{powers-are}
+
+-- ---- nothing on a part
+
+no-surplus : (p : Part) → p .actual ≡ 0 → surplusOf p ≡ 0
+unfolding surplusOf leastOf
+no-surplus p a = go (eqb (p .outer .0) 0)
+  where
+    go : (t : Bool) → cond t 0 (leastOf (p .actual * 5400) (ceilingOf p) - p .outer .0) ≡ 0
+    go true = refl
+    go false = omega arith
+
+no-acceptance : (p : Part) → p .actual ≡ 0 → acceptanceOf p ≡ 0
+unfolding acceptanceOf leastOf
+no-acceptance p a = omega arith
+
+no-floor : (p : Part) → p .inner .0 ≡ 0 → floorOf p ≡ 0
+unfolding floorOf leastOf
+no-floor p i = omega arith
+
+least-none : (m n : ℕ) → m ≡ 0 → leastOf m n ≡ 0
+unfolding leastOf
+least-none m n e = omega arith
+
+nothing : (q : Quantity) (p : Part) → p .setpoint ≡ 0 → p .actual ≡ 0 → p .inner .0 ≡ 0 → amountOf q p ≡ 0
+unfolding mostOf
+nothing Setpoint p s a i = omega arith
+nothing Actual p s a i = omega arith
+nothing Acceptance p s a i = no-acceptance p a
+nothing Surplus p s a i = no-surplus p a
+nothing Shortfall p s a i = omega arith
+nothing UnderDelivery p s a i = omega (arith, no-floor p i)
+nothing Inner p s a i = i
+nothing Floor p s a i = no-floor p i
+nothing Covered p s a i = omega (arith, no-acceptance p a, no-floor p i)
+nothing Kept p s a i = least-none (p .inner .0) (coveredOf p) i
+
+idle-nothing : (q : Quantity) (p : Part) → idleOf p ≡ true → amountOf q p ≡ 0
+unfolding idleOf
+idle-nothing q p e =
+    let one = both (eqb (p .setpoint) 0) (eqb (p .actual) 0 && eqb (p .inner .0) 0) e in
+    let two = both (eqb (p .actual) 0) (eqb (p .inner .0) 0) (one .1) in
+    nothing q p (eqb-true (p .setpoint) 0 (one .0)) (eqb-true (p .actual) 0 (two .0)) (eqb-true (p .inner .0) 0 (two .1))
+
+-- what is 0 for a power of 0 sums to the same with the idle parts and without them
+module _ (f : ℕ → ℕ) (z : f 0 ≡ 0) (q : Quantity) where
+  one-idle : (b : Bool) (p : Part) (ps : List Part) → idleOf p ≡ b → overOf f (each (amountOf q) (busyOf ps)) ≡ overOf f (each (amountOf q) ps)
+      → overOf f (each (amountOf q) (cond b (busyOf ps) (p ∷ busyOf ps))) ≡ overOf f (each (amountOf q) (p ∷ ps))
+  unfolding overOf each
+  one-idle true p ps e same = rw (idle-nothing q p e, z) (omega (arith, same))
+  one-idle false p ps e same = rw same
+
+  pub busy-sum : (ps : List Part) → overOf f (each (amountOf q) (busyOf ps)) ≡ overOf f (each (amountOf q) ps)
+  unfolding busyOf
+  busy-sum [] = refl
+  busy-sum (p ∷ ps) = one-idle (idleOf p) p ps refl (busy-sum ps)
+
+slice-none : (low high : ℕ) → sliceOf low high 0 ≡ 0
+unfolding sliceOf leastOf
+slice-none low high = omega arith
+
+above-none : (low : ℕ) → 0 - low ≡ 0
+above-none low = omega arith
+
+-- so the pieces are those of all the samples
+module _ (d : Direction) (x : Samples) (q : Quantity) where
+  abbrev busy : List ℕ
+  busy = each (amountOf q) (busyOf (partsOf d x))
+
+  same-sum : (f : ℕ → ℕ) → f 0 ≡ 0 → overOf f busy ≡ overOf f (powersOf d x q)
+  same-sum f z = rw (← powers-are d x q) (busy-sum f z q (partsOf d x))
+
+  sum-viewed : sumOf busy ≡ sumOf (powersOf d x q)
+  sum-viewed = same-sum (λ v. v) refl
+
+  pieces-viewed : (limits : List ℕ) → piecesOf limits busy ≡ piecesOf limits (powersOf d x q)
+  unfolding piecesOf
+  pieces-viewed limits =
+      let slices : each (sumHeld busy) (cutsOf limits) ≡ each (sumHeld (powersOf d x q)) (cutsOf limits) =
+      each-same (sumHeld busy) (sumHeld (powersOf d x q)) (λ (c : Cut). rw (same-sum (sliceOf (c .low) (c .high)) (slice-none (c .low) (c .high)))) (cutsOf limits) in
+      rw (slices, same-sum (λ v. v - lastOf limits) (above-none (lastOf limits)))
+
+-- and so are the sums, by what was written down
+module _ (d : Direction) (x : Samples) (limits asked delivered accepted required inner kept : List ℕ) (count surplus under : ℕ) where
+  pub sums-viewed : Written (busyOf (partsOf d x)) asked delivered accepted required inner kept count surplus under
+      → record {
+        setpoint = piecesOf limits (take count asked);
+        actual = piecesOf limits (take count delivered);
+        acceptance = piecesOf limits (take count accepted);
+        floor = piecesOf limits (take count required);
+        inner = piecesOf limits (take count inner);
+        kept = piecesOf limits (take count kept);
+        surplus = surplus;
+        «under_delivery» = under;
+      } ≡ sumsOf (powersOf d x) limits
+  unfolding sumsOf
+  sums-viewed w =
+      rw (
+        w .asked,
+        w .delivered,
+        w .accepted,
+        w .required,
+        w .inner,
+        w .kept,
+        w .surplus,
+        w .under,
+        pieces-viewed d x Setpoint limits,
+        pieces-viewed d x Actual limits,
+        pieces-viewed d x Acceptance limits,
+        pieces-viewed d x Floor limits,
+        pieces-viewed d x Inner limits,
+        pieces-viewed d x Kept limits,
+        sum-viewed d x Surplus,
+        sum-viewed d x UnderDelivery,
+      )
+
+-- ---- one part more, or one that is left out
+
+after : (b : Bool) (p : Part) (l m : List Part) → cond b (l ++ m) (p ∷ (l ++ m)) ≡ cond b l (p ∷ l) ++ m
+after true p l m = refl
+after false p l m = refl
+
+busy-end : (l : List Part) (i : ℕ) (p : Part) → i < length l → busyOf (take (suc i) l) ≡ busyOf (take i l) ++ cond (idleOf (getD l i p)) [] (getD l i p ∷ [])
+unfolding busyOf
+busy-end [] i p h = absurd (omega arith)
+busy-end (x ∷ l) zero p h = refl
+busy-end (x ∷ l) (suc i) p h =
+    rw (busy-end l i p (omega arith)) (after (idleOf x) x (busyOf (take i l)) (cond (idleOf (getD l i p)) [] (getD l i p ∷ [])))
+
+-- ---- parts written down
+
+write-one : (f : Part → ℕ) (ps : List Part) (p : Part) (l : List ℕ) (count : ℕ) → count < length l → take count l ≡ each f ps
+    → take (count + 1) (set l count (f p)) ≡ each f (ps ++ (p ∷ []))
+write-one f ps p l count h e = rw (add-one, take-suc-set l count (f p) h, e, each-end f ps p)
+
+add-up : (f : Part → ℕ) (ps : List Part) (p : Part) (sum : ℕ) → sum ≡ sumOf (each f ps) % 2 ^ 64
+    → (sum + f p) % 2 ^ 64 ≡ sumOf (each f (ps ++ (p ∷ []))) % 2 ^ 64
+add-up f ps p sum e = rw (e, each-end f ps p, over-snoc (λ w. w) (each f ps) (f p)) (mod-add-mod (sumOf (each f ps)) (2 ^ 64) (f p))
+
+module _ (asked delivered accepted required inner kept : List ℕ) where
+  pub written-none : Written [] asked delivered accepted required inner kept 0 0 0
+  unfolding each overOf
+  written-none =
+      record { counted = refl; asked = refl; delivered = refl; accepted = refl; required = refl; inner = refl; kept = refl; surplus = refl; under = refl }
+
+  module _ (ps : List Part) (p : Part) (count surplus under : ℕ) (room : Roomy asked delivered accepted required inner kept) (h : count < 900)
+      (w : Written ps asked delivered accepted required inner kept count surplus under) where
+    written-more : Written (ps ++ (p ∷ [])) (set asked count (amountOf Setpoint p)) (set delivered count (amountOf Actual p))
+        (set accepted count (amountOf Acceptance p)) (set required count (amountOf Floor p)) (set inner count (amountOf Inner p))
+        (set kept count (amountOf Kept p)) (count + 1) ((surplus + amountOf Surplus p) % 2 ^ 64) ((under + amountOf UnderDelivery p) % 2 ^ 64)
+    written-more =
+        record {
+          counted = rw (length-append ps (p ∷ []), w .counted);
+          asked = write-one (amountOf Setpoint) ps p asked count (omega (arith, room .asked)) (w .asked);
+          delivered = write-one (amountOf Actual) ps p delivered count (omega (arith, room .delivered)) (w .delivered);
+          accepted = write-one (amountOf Acceptance) ps p accepted count (omega (arith, room .accepted)) (w .accepted);
+          required = write-one (amountOf Floor) ps p required count (omega (arith, room .required)) (w .required);
+          inner = write-one (amountOf Inner) ps p inner count (omega (arith, room .inner)) (w .inner);
+          kept = write-one (amountOf Kept) ps p kept count (omega (arith, room .kept)) (w .kept);
+          surplus = add-up (amountOf Surplus) ps p surplus (w .surplus);
+          under = add-up (amountOf UnderDelivery) ps p under (w .under);
+        }
+
+    room-more : (v1 v2 v3 v4 v5 v6 : ℕ)
+        → Roomy (set asked count v1) (set delivered count v2) (set accepted count v3) (set required count v4) (set inner count v5) (set kept count v6)
+    room-more v1 v2 v3 v4 v5 v6 =
+        record {
+          asked = length-set asked count v1 ∙ room .asked;
+          delivered = length-set delivered count v2 ∙ room .delivered;
+          accepted = length-set accepted count v3 ∙ room .accepted;
+          required = length-set required count v4 ∙ room .required;
+          inner = length-set inner count v5 ∙ room .inner;
+          kept = length-set kept count v6 ∙ room .kept;
+        }
+
+-- ---- the samples gone through
+
+module _ (d : Direction) (x : Samples) (asked delivered accepted required inner kept : List ℕ) where
+  pub viewed-none : Roomy asked delivered accepted required inner kept → Viewed d x asked delivered accepted required inner kept 0 0 0 0
+  unfolding busyOf
+  viewed-none room =
+      record {
+        room = room;
+        few = omega arith;
+        written = written-none asked delivered accepted required inner kept;
+        fitting = below-none (λ k. SFits w32 (getD (x .setpoints) k (pos 0)) × SFits w32 (getD (x .actuals) k (pos 0)));
+      }
+
+  module _ (p : Part) (count surplus under i : ℕ) (h : i < length (x .setpoints)) (f : Faced d x i p)
+      (v : Viewed d x asked delivered accepted required inner kept count surplus under i) where
+    fitting-more : Fitting (x .setpoints) (x .actuals) (i + 1)
+    fitting-more =
+        below-more (λ k. SFits w32 (getD (x .setpoints) k (pos 0)) × SFits w32 (getD (x .actuals) k (pos 0))) i (v .fitting) (f .setpoint, f .actual)
+
+    -- the part at the place
+    here : getD (partsOf d x) i p ≡ p
+    here = along (partAt d x) 0 (x .setpoints) i (pos 0) p h ∙ rw (zero-add i) (sym (f .part))
+
+    next-part : busyOf (take (i + 1) (partsOf d x)) ≡ busyOf (take i (partsOf d x)) ++ cond (idleOf p) [] (p ∷ [])
+    next-part = rw (add-one) (busy-end (partsOf d x) i p (omega (arith, outputs-length next (partAt d x) 0 (x .setpoints))) ∙ rw here)
+
+    pub viewed-idle : idleOf p ≡ true → Viewed d x asked delivered accepted required inner kept count surplus under (i + 1)
+    viewed-idle e =
+        record {
+          room = v .room;
+          few = omega (arith, v .few);
+          written = rw (next-part, e, append-nil) (v .written);
+          fitting = fitting-more;
+        }
+
+    pub viewed-more : length (x .setpoints) ≤ 900 → idleOf p ≡ false
+        → Viewed d x (set asked count (amountOf Setpoint p)) (set delivered count (amountOf Actual p)) (set accepted count (amountOf Acceptance p))
+        (set required count (amountOf Floor p)) (set inner count (amountOf Inner p)) (set kept count (amountOf Kept p)) (count + 1)
+        ((surplus + amountOf Surplus p) % 2 ^ 64) ((under + amountOf UnderDelivery p) % 2 ^ 64) (i + 1)
+    viewed-more few e =
+        let fits : count < 900 = omega (arith, v .few) in
+        record {
+          room = room-more asked delivered accepted required inner kept (busyOf (take i (partsOf d x))) p count surplus under (v .room) fits (v .written) _ _ _ _ _ _;
+          few = omega (arith, v .few);
+          written =
+              rw (next-part, e)
+              (written-more asked delivered accepted required inner kept (busyOf (take i (partsOf d x))) p count surplus under (v .room) fits (v .written));
+          fitting = fitting-more;
+        }
+
+  -- all of them
+  pub viewed-all : (count surplus under : ℕ) → Viewed d x asked delivered accepted required inner kept count surplus under (length (x .setpoints))
+      → Written (busyOf (partsOf d x)) asked delivered accepted required inner kept count surplus under
+  viewed-all count surplus under v =
+      let all : take (length (x .setpoints)) (partsOf d x) ≡ partsOf d x =
+      take-all (length (x .setpoints)) (partsOf d x) (omega (arith, outputs-length next (partAt d x) 0 (x .setpoints))) in
+      rw all at (v .written)
