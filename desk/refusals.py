@@ -64,6 +64,15 @@ REFUSALS = (
             "OGA or UGA not -10,800,000,000 to 10,800,000,000 units, a past setpoint not -2,000,000 to 2,000,000 kW, "
             "or the newest not between UGA and OGA",
             "copy the block anew from the sheet of the run before"),
+    Refusal(19, "NoFirstSample",
+            "(mend) no line for second 0 before a later one or the end",
+            "look for the start of the recording: nothing stands before second 0 that could be filled in from"),
+    Refusal(20, "HoleTooLong",
+            "(mend) more than 60 seconds in a row are missing before the line",
+            "get the missing lines from the archive: a hole of up to 60 seconds is filled, a longer one is not"),
+    Refusal(21, "SecondsOutOfOrder",
+            "(mend) a second smaller than that of the line before",
+            "put the lines in the order of their seconds, or look why the archive has them in another"),
 )
 
 BY_NUMBER = {refusal.number: refusal for refusal in REFUSALS}

@@ -90,7 +90,7 @@ pub(crate) fn interval(line: &[u8], k: usize) -> Interval {
 }
 
 pub(crate) fn refusal(line: &[u8], k: usize) -> Refusal {
-    match count(line, k, 18) {
+    match count(line, k, 21) {
         1 => Refusal::WrongMoment,
         2 => Refusal::BadInterval,
         3 => Refusal::BadLot,
@@ -109,6 +109,9 @@ pub(crate) fn refusal(line: &[u8], k: usize) -> Refusal {
         16 => Refusal::BufferTooShort,
         17 => Refusal::BadBlockLength,
         18 => Refusal::BadBlockValue,
+        19 => Refusal::NoFirstSample,
+        20 => Refusal::HoleTooLong,
+        21 => Refusal::SecondsOutOfOrder,
         _ => Refusal::None,
     }
 }

@@ -7,6 +7,7 @@ use Rattle.vocabulary.specs.declared.refusal.Refusal.{Refusal}
 use Rattle.vocabulary.specs.declared.refusal.Refusal.the-variants.{None, WrongMoment, BadInterval, BadLot, BadDate, BadQuarters}
 use Rattle.vocabulary.specs.declared.refusal.Refusal.the-variants.{TooManyContracts, BadIdentifier, IdentifierTaken, BadAward, AwardsTooHigh}
 use Rattle.vocabulary.specs.declared.refusal.Refusal.the-variants.{BadPrice, PriceTooLow, BadPower, BadLine, NoEnd, BufferTooShort, BadBlockLength, BadBlockValue}
+use Rattle.vocabulary.specs.declared.refusal.Refusal.the-variants.{NoFirstSample, HoleTooLong, SecondsOutOfOrder}
 use Rattle.vocabulary.specs.Refusals.{accepted}
 
 pub data Answer (r : Refusal) : Type 0 where
@@ -33,6 +34,9 @@ answer NoEnd = is-some refl
 answer BufferTooShort = is-some refl
 answer BadBlockLength = is-some refl
 answer BadBlockValue = is-some refl
+answer NoFirstSample = is-some refl
+answer HoleTooLong = is-some refl
+answer SecondsOutOfOrder = is-some refl
 
 -- what is accepted is no refusal
 pub accepted-none : (r : Refusal) → accepted r ≡ true → r ≡ None

@@ -8,6 +8,7 @@ use Rattle.vocabulary.specs.declared.refusal.Refusal.{Refusal}
 use Rattle.vocabulary.specs.declared.refusal.Refusal.the-variants.{None, WrongMoment, BadInterval, BadLot, BadDate, BadQuarters}
 use Rattle.vocabulary.specs.declared.refusal.Refusal.the-variants.{TooManyContracts, BadIdentifier, IdentifierTaken, BadAward, AwardsTooHigh}
 use Rattle.vocabulary.specs.declared.refusal.Refusal.the-variants.{BadPrice, PriceTooLow, BadPower, BadLine, NoEnd, BufferTooShort, BadBlockLength, BadBlockValue}
+use Rattle.vocabulary.specs.declared.refusal.Refusal.the-variants.{NoFirstSample, HoleTooLong, SecondsOutOfOrder}
 use Rattle.vocabulary.specs.Refusals.{numberOf}
 
 -- THE LISTING. A refusal's rank is its place here, not its number
@@ -26,6 +27,9 @@ listing =
     ∷ BadPrice
     ∷ PriceTooLow
     ∷ BadPower
+    ∷ NoFirstSample
+    ∷ HoleTooLong
+    ∷ SecondsOutOfOrder
     ∷ BadBlockLength
     ∷ BadBlockValue
     ∷ BadLine

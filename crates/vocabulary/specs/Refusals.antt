@@ -6,6 +6,7 @@ use Rattle.vocabulary.specs.declared.refusal.Refusal.{Refusal}
 use Rattle.vocabulary.specs.declared.refusal.Refusal.the-variants.{None, WrongMoment, BadInterval, BadLot, BadDate, BadQuarters}
 use Rattle.vocabulary.specs.declared.refusal.Refusal.the-variants.{TooManyContracts, BadIdentifier, IdentifierTaken, BadAward, AwardsTooHigh}
 use Rattle.vocabulary.specs.declared.refusal.Refusal.the-variants.{BadPrice, PriceTooLow, BadPower, BadLine, NoEnd, BufferTooShort, BadBlockLength, BadBlockValue}
+use Rattle.vocabulary.specs.declared.refusal.Refusal.the-variants.{NoFirstSample, HoleTooLong, SecondsOutOfOrder}
 
 abbrev pub numberOf : Refusal → ℕ
 numberOf None = 0
@@ -27,6 +28,9 @@ numberOf NoEnd = 15
 numberOf BufferTooShort = 16
 numberOf BadBlockLength = 17
 numberOf BadBlockValue = 18
+numberOf NoFirstSample = 19
+numberOf HoleTooLong = 20
+numberOf SecondsOutOfOrder = 21
 
 -- whether nothing is refused
 abbrev pub accepted : Refusal → Bool

@@ -23,6 +23,9 @@ pub enum Refusal {
     BufferTooShort,
     BadBlockLength,
     BadBlockValue,
+    NoFirstSample,
+    HoleTooLong,
+    SecondsOutOfOrder,
 }
 
 impl Refusal {
@@ -49,6 +52,9 @@ impl Refusal {
             Refusal::BufferTooShort => 16,
             Refusal::BadBlockLength => 17,
             Refusal::BadBlockValue => 18,
+            Refusal::NoFirstSample => 19,
+            Refusal::HoleTooLong => 20,
+            Refusal::SecondsOutOfOrder => 21,
         }
     }
 }
