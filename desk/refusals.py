@@ -73,6 +73,9 @@ REFUSALS = (
     Refusal(21, "SecondsOutOfOrder",
             "(mend) a second smaller than that of the line before",
             "put the lines in the order of their seconds, or look why the archive has them in another"),
+    Refusal(22, "MisplacedShare",
+            "(shares) a U line missing, surplus or out of order",
+            "give one U line for each contract and quarter hour after E, in the order of the sheet's K lines"),
 )
 
 BY_NUMBER = {refusal.number: refusal for refusal in REFUSALS}

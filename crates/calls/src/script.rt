@@ -90,7 +90,7 @@ pub(crate) fn interval(line: &[u8], k: usize) -> Interval {
 }
 
 pub(crate) fn refusal(line: &[u8], k: usize) -> Refusal {
-    match count(line, k, 21) {
+    match count(line, k, 22) {
         1 => Refusal::WrongMoment,
         2 => Refusal::BadInterval,
         3 => Refusal::BadLot,
@@ -112,6 +112,7 @@ pub(crate) fn refusal(line: &[u8], k: usize) -> Refusal {
         19 => Refusal::NoFirstSample,
         20 => Refusal::HoleTooLong,
         21 => Refusal::SecondsOutOfOrder,
+        22 => Refusal::MisplacedShare,
         _ => Refusal::None,
     }
 }

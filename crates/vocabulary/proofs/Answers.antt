@@ -7,7 +7,7 @@ use Rattle.vocabulary.specs.declared.refusal.Refusal.{Refusal}
 use Rattle.vocabulary.specs.declared.refusal.Refusal.the-variants.{None, WrongMoment, BadInterval, BadLot, BadDate, BadQuarters}
 use Rattle.vocabulary.specs.declared.refusal.Refusal.the-variants.{TooManyContracts, BadIdentifier, IdentifierTaken, BadAward, AwardsTooHigh}
 use Rattle.vocabulary.specs.declared.refusal.Refusal.the-variants.{BadPrice, PriceTooLow, BadPower, BadLine, NoEnd, BufferTooShort, BadBlockLength, BadBlockValue}
-use Rattle.vocabulary.specs.declared.refusal.Refusal.the-variants.{NoFirstSample, HoleTooLong, SecondsOutOfOrder}
+use Rattle.vocabulary.specs.declared.refusal.Refusal.the-variants.{NoFirstSample, HoleTooLong, SecondsOutOfOrder, MisplacedShare}
 use Rattle.vocabulary.specs.Refusals.{accepted}
 
 pub data Answer (r : Refusal) : Type 0 where
@@ -37,6 +37,7 @@ answer BadBlockValue = is-some refl
 answer NoFirstSample = is-some refl
 answer HoleTooLong = is-some refl
 answer SecondsOutOfOrder = is-some refl
+answer MisplacedShare = is-some refl
 
 -- what is accepted is no refusal
 pub accepted-none : (r : Refusal) → accepted r ≡ true → r ≡ None

@@ -8,7 +8,7 @@ use Rattle.vocabulary.specs.declared.refusal.Refusal.{Refusal}
 use Rattle.vocabulary.specs.declared.refusal.Refusal.the-variants.{None, WrongMoment, BadInterval, BadLot, BadDate, BadQuarters}
 use Rattle.vocabulary.specs.declared.refusal.Refusal.the-variants.{TooManyContracts, BadIdentifier, IdentifierTaken, BadAward, AwardsTooHigh}
 use Rattle.vocabulary.specs.declared.refusal.Refusal.the-variants.{BadPrice, PriceTooLow, BadPower, BadLine, NoEnd, BufferTooShort, BadBlockLength, BadBlockValue}
-use Rattle.vocabulary.specs.declared.refusal.Refusal.the-variants.{NoFirstSample, HoleTooLong, SecondsOutOfOrder}
+use Rattle.vocabulary.specs.declared.refusal.Refusal.the-variants.{NoFirstSample, HoleTooLong, SecondsOutOfOrder, MisplacedShare}
 use Rattle.vocabulary.specs.Refusals.{numberOf}
 
 -- THE LISTING. A refusal's rank is its place here, not its number
@@ -32,6 +32,7 @@ listing =
     ∷ SecondsOutOfOrder
     ∷ BadBlockLength
     ∷ BadBlockValue
+    ∷ MisplacedShare
     ∷ BadLine
     ∷ NoEnd
     ∷ BufferTooShort

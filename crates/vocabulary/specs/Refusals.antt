@@ -6,7 +6,7 @@ use Rattle.vocabulary.specs.declared.refusal.Refusal.{Refusal}
 use Rattle.vocabulary.specs.declared.refusal.Refusal.the-variants.{None, WrongMoment, BadInterval, BadLot, BadDate, BadQuarters}
 use Rattle.vocabulary.specs.declared.refusal.Refusal.the-variants.{TooManyContracts, BadIdentifier, IdentifierTaken, BadAward, AwardsTooHigh}
 use Rattle.vocabulary.specs.declared.refusal.Refusal.the-variants.{BadPrice, PriceTooLow, BadPower, BadLine, NoEnd, BufferTooShort, BadBlockLength, BadBlockValue}
-use Rattle.vocabulary.specs.declared.refusal.Refusal.the-variants.{NoFirstSample, HoleTooLong, SecondsOutOfOrder}
+use Rattle.vocabulary.specs.declared.refusal.Refusal.the-variants.{NoFirstSample, HoleTooLong, SecondsOutOfOrder, MisplacedShare}
 
 abbrev pub numberOf : Refusal → ℕ
 numberOf None = 0
@@ -31,6 +31,7 @@ numberOf BadBlockValue = 18
 numberOf NoFirstSample = 19
 numberOf HoleTooLong = 20
 numberOf SecondsOutOfOrder = 21
+numberOf MisplacedShare = 22
 
 -- whether nothing is refused
 abbrev pub accepted : Refusal → Bool

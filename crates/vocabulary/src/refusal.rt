@@ -26,6 +26,7 @@ pub enum Refusal {
     NoFirstSample,
     HoleTooLong,
     SecondsOutOfOrder,
+    MisplacedShare,
 }
 
 impl Refusal {
@@ -55,6 +56,7 @@ impl Refusal {
             Refusal::NoFirstSample => 19,
             Refusal::HoleTooLong => 20,
             Refusal::SecondsOutOfOrder => 21,
+            Refusal::MisplacedShare => 22,
         }
     }
 }
