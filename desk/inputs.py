@@ -11,11 +11,12 @@ from desk.visible import visible
 BLOCK = 1 << 16
 # Header, carry block and contracts stand within this many first bytes of any input that is not refused among them.
 HEAD = 1 << 16
-# The last bytes that are kept. The line that ends a run is among them: the program has read at most one block (64 KiB)
-# past it, as much again may wait in the pipe, and one block more was read here.
+# The last bytes that are kept. The line that ends a run is among them: the program has read at most one of its blocks
+# (256 KiB) past it, 64 KiB may wait in the pipe, and one block more was read here.
 WINDOW = 1 << 20
-# The end line of a file that the program read itself is among so many bytes before the place that it came to.
-REACH = 4 * BLOCK
+# The end line of a file that the program read itself is among so many bytes before the place that it came to, which is
+# at most one of its blocks past that line.
+REACH = 8 * BLOCK
 # As many bytes of a line are kept as a message can show.
 SHOWN = 256
 # How long to look whether something follows the end line where the input is a pipe that stays open, in milliseconds.

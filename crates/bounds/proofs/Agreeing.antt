@@ -10,7 +10,7 @@ use Rattle.vocabulary.specs.Interval.{windowsOf}
 use Rattle.bounds.specs.declared.side.Side.{Side}
 use Rattle.bounds.specs.declared.side.Side.the-variants.{Upper, Lower}
 use Rattle.bounds.specs.Windows.{over, spreadOf, gradientOf, nextOga, nextUga}
-use Rattle.bounds.specs.Side.{nextBy}
+use Rattle.bounds.specs.Side.{nextBy, seenBy}
 use Rattle.bounds.proofs.Scan.{within}
 
 over-cong : (op : ℤ → ℤ → ℤ) (f g : ℕ → ℤ) (from n : ℕ) → ((k : ℕ) → k ≤ from + n → f k ≡ g k) → over op f from n ≡ over op g from n
@@ -43,12 +43,9 @@ module _ (i : Interval) (f g : ℕ → ℤ) (h : (k : ℕ) → k < 302 → f k �
   reach : (k : ℕ) → k ≤ windowsOf i .to → f k ≡ g k
   reach k l = let w = within i in h k (omega arith)
 
-  pub near-cong : (op : ℤ → ℤ → ℤ) → over op f 0 (windowsOf i .near - 0) ≡ over op g 0 (windowsOf i .near - 0)
-  near-cong = near-same i f g reach
-
-  pub spread-cong : (op : ℤ → ℤ → ℤ)
-      → over op f (windowsOf i .from) (windowsOf i .to - windowsOf i .from) ≡ over op g (windowsOf i .from) (windowsOf i .to - windowsOf i .from)
-  spread-cong = spread-same i f g reach
-
   pub next-cong : (side : Side) (lot : ℕ) (held : ℤ) → nextBy side i lot f held ≡ nextBy side i lot g held
   next-cong = next-same i f g reach
+
+  pub seen-cong : seenBy i f ≡ seenBy i g
+  unfolding seenBy
+  seen-cong = rw (near-same i f g reach maxZ, near-same i f g reach minZ, spread-same i f g reach maxZ, spread-same i f g reach minZ)

@@ -60,7 +60,7 @@ module _ (i : Interval) (lot : ℕ) (line : List ℤ) (n : ℕ) (highest lowest 
         least = getD least (302 + k - windowsOf i .from) (pos 0);
       }
 
-  seen-at : Shown i line n highest lowest most least → (k : ℕ) → k < n → seenAt k ≡ seenBy i (backAt line (302 + k))
+  pub seen-at : Shown i line n highest lowest most least → (k : ℕ) → k < n → seenAt k ≡ seenBy i (backAt line (302 + k))
   unfolding seenBy
   seen-at s k h =
       let e : 302 + k ≡ 302 + k - 0 = omega arith in

@@ -1,4 +1,4 @@
--- The channel along setpoints: what it keeps, its past as a line, its windows and bounds as the line has them, and its ring.
+-- The channel along setpoints: what it keeps, its past as a line, its bounds as the line has them, and its ring.
 -- Assumes nothing.
 use mathlib.Core.Path.{_≡_, refl, sym, ap, _∙_}
 use mathlib.Core.Bool.{Bool, true, false, cond}
@@ -21,15 +21,16 @@ use Rattle.vocabulary.specs.Interval.{windowsOf}
 use Rattle.bounds.specs.declared.side.Side.{Side}
 use Rattle.bounds.specs.declared.side.Side.the-variants.{Upper, Lower}
 use Rattle.bounds.specs.declared.line.Led.{Led}
-use Rattle.bounds.specs.Windows.{over, largest, smallest}
-use Rattle.bounds.specs.Side.{fartherOf, nextBy}
+use Rattle.bounds.specs.Side.{nextBy}
 use Rattle.bounds.specs.Widening.{backAt}
-use Rattle.bounds.specs.Line.{heldAfter, heldAt, noBounds, ledOf, NearWindows, SpreadWindows}
-use Rattle.bounds.proofs.Agreeing.{near-cong, spread-cong, next-cong}
+use Rattle.bounds.specs.Line.{heldAfter, heldAt, noBounds, ledOf}
+use Rattle.bounds.proofs.Agreeing.{next-cong}
 use Rattle.channel.specs.declared.Channel.{Channel}
-use Rattle.channel.specs.State.{backIn, pastOf, after, primedOf, filledOf, storedOf, advancedOf, followed}
+use Rattle.channel.specs.Start.{Start}
+use Rattle.channel.specs.Backward.{seriesAfter}
+use Rattle.channel.specs.State.{backIn, pastOf, after, primedOf, filledOf, storedOf, advancedOf, followed, StandsFor}
 use Rattle.channel.specs.Along.{ogaAfter, ugaAfter, channelAfter, ogasAlong, ugasAlong, trackOf, pastAt, agedAt, freshAt, Lined, ringAt}
-use Rattle.channel.proofs.Ring.{stored-newest, stored-older, primed-later}
+use Rattle.channel.proofs.Ring.{stored-newest, stored-older, primed-later, follows}
 
 -- OGA, or UGA, of a channel, and after one more setpoint
 abbrev pub boundIn : Side → Channel → ℤ
@@ -129,31 +130,6 @@ module _ (ch : Channel) (ss line : List ℤ) (begun : ch .begun ≡ true) (l : L
   -- at setpoint i, as far as the ring reaches
   pub past-here : (i : ℕ) → i < length ss → (k : ℕ) → k < 302 → pastAt ch ss i k ≡ backAt line (302 + i) k
   past-here i h k b = let e : 301 + (i + 1) ≡ 302 + i = omega arith in rw e at (past-at (i + 1) k (omega arith) b)
-
--- ---- the windows: what the passes over the line hold at setpoint i is what a scan of the channel after it finds
-
-module _ (ch : Channel) (ss line : List ℤ) (begun : ch .begun ≡ true) (l : Lined (ch .ring) (ch .newest % 302) ss line (length ss)) (xs : List ℤ) (i : ℕ) (h : i < length ss) where
-  near-scan : (side : Side) → NearWindows side (ch .interval) line (length ss) xs
-      → getD xs (302 + i - 0) (pos 0) ≡ over (fartherOf side) (pastAt ch ss i) 0 (windowsOf (ch .interval) .near - 0)
-  near-scan side w = w .found i h ∙ sym (near-cong (ch .interval) (pastAt ch ss i) (backAt line (302 + i)) (past-here ch ss line begun l i h) (fartherOf side))
-
-  spread-scan : (side : Side) → SpreadWindows side (ch .interval) line (length ss) xs → getD xs (302 + i - windowsOf (ch .interval) .from) (pos 0)
-      ≡ over (fartherOf side) (pastAt ch ss i) (windowsOf (ch .interval) .from) (windowsOf (ch .interval) .to - windowsOf (ch .interval) .from)
-  spread-scan side w = w .found i h ∙ sym (spread-cong (ch .interval) (pastAt ch ss i) (backAt line (302 + i)) (past-here ch ss line begun l i h) (fartherOf side))
-
-  pub near-largest : NearWindows Upper (ch .interval) line (length ss) xs → getD xs (302 + i - 0) (pos 0) ≡ largest (pastAt ch ss i) 0 (windowsOf (ch .interval) .near)
-  near-largest = near-scan Upper
-
-  pub near-smallest : NearWindows Lower (ch .interval) line (length ss) xs → getD xs (302 + i - 0) (pos 0) ≡ smallest (pastAt ch ss i) 0 (windowsOf (ch .interval) .near)
-  near-smallest = near-scan Lower
-
-  pub spread-largest : SpreadWindows Upper (ch .interval) line (length ss) xs
-      → getD xs (302 + i - windowsOf (ch .interval) .from) (pos 0) ≡ largest (pastAt ch ss i) (windowsOf (ch .interval) .from) (windowsOf (ch .interval) .to)
-  spread-largest = spread-scan Upper
-
-  pub spread-smallest : SpreadWindows Lower (ch .interval) line (length ss) xs
-      → getD xs (302 + i - windowsOf (ch .interval) .from) (pos 0) ≡ smallest (pastAt ch ss i) (windowsOf (ch .interval) .from) (windowsOf (ch .interval) .to)
-  spread-smallest = spread-scan Lower
 
 -- ---- the bounds
 
@@ -306,3 +282,10 @@ module _ (ch : Channel) (ss : List ℤ) (i : ℕ) (h : i < length ss) where
   pub track-uga : getD (trackOf ch ss .ugas) i (pos 0) ≡ getD (ugasAlong ch ss) i (pos 0)
   unfolding trackOf
   track-uga = List·getD-append (ugasAlong ch ss) (drop (length ss) noBounds) (pos 0) i (omega (arith, outputs-length followed ugaAfter ch ss))
+
+-- a channel that stands for a series stands for the longer one afterwards
+module _ (i : Interval) (lot : ℕ) (start : Start) where
+  pub channel-history : (ch : Channel) (h ss : List ℤ) → StandsFor i lot start ch h → StandsFor i lot start (channelAfter ch ss) (seriesAfter h ss)
+  unfolding ran seriesAfter
+  channel-history ch h [] r = r
+  channel-history ch h (s ∷ ss) r = channel-history (followed ch s) (s ∷ h) ss (follows ch s start h r)

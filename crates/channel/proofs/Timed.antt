@@ -90,7 +90,7 @@ module _ (ss : List ℤ) where
 
 -- ---- behind the setpoints that were carried
 
-take-behind : (c ss : List ℤ) (n : ℕ) → take (length c + n) (c ++ ss) ≡ c ++ take n ss
+pub take-behind : (c ss : List ℤ) (n : ℕ) → take (length c + n) (c ++ ss) ≡ c ++ take n ss
 take-behind [] ss n = rw (zero-add n)
 take-behind (x ∷ c) ss n =
     let e : length (x ∷ c) + n ≡ suc (length c + n) = omega arith in
@@ -125,7 +125,7 @@ timed-later Lower p t = refl
 
 module _ (p : Past) where
   -- all setpoints back from sample t
-  all-back : (t : ℕ) → t < length (p .setpoints) → pastFrom (p .start) (told (p .setpoints) t) ≡ soll p t
+  pub all-back : (t : ℕ) → t < length (p .setpoints) → pastFrom (p .start) (told (p .setpoints) t) ≡ soll p t
   unfolding soll
   all-back t h =
       let c = carriedBy (p .start) in

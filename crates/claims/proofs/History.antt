@@ -9,9 +9,8 @@ use Rattle.vocabulary.specs.declared.interval.Interval.{Interval}
 use Rattle.channel.specs.Start.{Start}
 use Rattle.channel.specs.State.{followed, StandsFor}
 use Rattle.channel.proofs.Ring.{follows}
-use Rattle.series.specs.Scan.{ran, outputs}
-use Rattle.channel.specs.Backward.{seriesAfter}
-use Rattle.channel.specs.Along.{ogaAfter, ugaAfter, channelAfter, ogasAlong, ugasAlong}
+use Rattle.series.specs.Scan.{outputs}
+use Rattle.channel.specs.Along.{ogaAfter, ugaAfter, ogasAlong, ugasAlong}
 use Rattle.claims.specs.Powers.{ogasOver, ugasOver, samplesOver}
 use Rattle.claims.specs.Claims.{samplesAlong}
 
@@ -25,12 +24,6 @@ module _ (i : Interval) (lot : ℕ) (start : Start) where
   unfolding outputs ugasOver ugaAfter
   ugas-history ch h [] r = refl
   ugas-history ch h (s ∷ ss) r = let d = follows ch s start h r in rw (ugas-history (followed ch s) (s ∷ h) ss d, d .uga)
-
-  -- the channel afterwards stands for the longer series
-  pub channel-history : (ch : Channel) (h ss : List ℤ) → StandsFor i lot start ch h → StandsFor i lot start (channelAfter ch ss) (seriesAfter h ss)
-  unfolding ran seriesAfter
-  channel-history ch h [] r = r
-  channel-history ch h (s ∷ ss) r = channel-history (followed ch s) (s ∷ h) ss (follows ch s start h r)
 
   pub samples-history : (ch : Channel) (h ss vs : List ℤ) → StandsFor i lot start ch h → samplesAlong ch ss vs ≡ samplesOver i lot start h ss vs
   samples-history ch h ss vs r = rw (ogas-history ch h ss r, ugas-history ch h ss r)

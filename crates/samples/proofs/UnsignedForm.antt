@@ -81,7 +81,9 @@ at-first s from bytes rest form n =
 module _ {s : List ℕ} {from : ℕ} {read : Digits} (counted : Counted s from read) where
   -- the digits of a number that stands there are all that was scanned
   found : {n : ℕ} (a : Standing s from n) → read ≡ record { value = n; to = from + length (a .bytes) }
-  found {n} a = counted .is ∙ ap (digitsFrom from 0) (a .form) ∙ scanned (a .bytes) (a .rest) from 0 (a .byte) n (a .stop) (plain-of (a .bytes) n (a .says) .says) (a .small)
+  found {n} a =
+      let p = plain-of (a .bytes) n (a .says) in
+      counted .is ∙ ap (digitsFrom 7 from 0) (a .form) ∙ scanned 7 (a .bytes) (a .rest) from 0 (a .byte) n (a .stop) (p .says) (short (a .bytes) n p (a .small))
 
   found-to : {n : ℕ} (a : Standing s from n) → read .to ≡ from + length (a .bytes)
   found-to a = ap (λ (r : Digits). r .to) (found a)
@@ -113,7 +115,7 @@ module _ {s : List ℕ} {from : ℕ} {read : Digits} (counted : Counted s from r
   -- and where all hold, what was scanned is one
   pub in-form : (read .to ≡ from → ⊥) → read .value ≤ 2000000 → (getD s from 0 ≡ 48 → read .to ≡ from + 1) → Unsigned s from (W.Of read)
   in-form n small z =
-      let sp : Spelled (drop from s) from 0 read = rw (counted .is) (spelled (drop from s) from 0) in
+      let sp : Spelled (drop from s) from 0 read = rw (counted .is) (spelled 7 (drop from s) from 0) in
       let some : (length (sp .bytes) ≡ 0 → ⊥) = λ l. n (sp .place ∙ rw (l, add-zero from)) in
       let p : Plain (sp .bytes) (read .value) = record {
         some = some;

@@ -1,10 +1,9 @@
 -- What the private functions say of the bytes that they scan: digits, numbers, a line.
-use Prim.Native.Nat.{ℕ, _+_, _-_, _*_, _≤_, _<_}
+use Prim.Native.Nat.{ℕ, zero, suc, _+_, _-_, _*_, _≤_, _<_}
 use mathlib.Core.Path.{_≡_}
 use mathlib.Core.Bool.{true, false, cond, _&&_}
 use mathlib.Core.List.{List, [], _∷_, _++_}
 use lib.ListN.{length, getD, drop}
-use lib.Dec.{leb}
 use lib.IntN.{ℤ}
 use Rattle.fields.specs.Numbers.{isDigit, unsignedOf, numberOf}
 use Rattle.fields.specs.declared.number.Digits.the-variants as F
@@ -35,14 +34,14 @@ pub record Cut (s : List ℕ) (e : ℕ) : Type 0 where
   pub none : linesOf (drop e s) ≡ []
   pub ended : 0 < e → getD s (e - 1) 0 ≡ 10
 
--- the value v with the digits at the front of some bytes, which start at `at`, as long as it may be a power
-unfoldable pub digitsFrom : ℕ → ℕ → List ℕ → Digits
-digitsFrom at v [] = record { value = v; to = at }
-digitsFrom at v (x ∷ xs) =
-    cond (leb v 200000 && isDigit x) (digitsFrom (at + 1) (v * 10 + (x - 48)) xs) (record { value = v; to = at })
+-- the value v with the digits at the front of some bytes, which start at `at`, n of them at most
+unfoldable pub digitsFrom : ℕ → ℕ → ℕ → List ℕ → Digits
+digitsFrom zero at v xs = record { value = v; to = at }
+digitsFrom (suc n) at v [] = record { value = v; to = at }
+digitsFrom (suc n) at v (x ∷ xs) = cond (isDigit x) (digitsFrom n (at + 1) (v * 10 + (x - 48)) xs) (record { value = v; to = at })
 
 pub record Counted (s : List ℕ) (from : ℕ) (r : Digits) : Type 0 where
-  pub is : r ≡ digitsFrom from 0 (drop from s)
+  pub is : r ≡ digitsFrom 7 from 0 (drop from s)
   pub stands : Ended s (r .to)
 
 -- the bytes before `to` are a number of no sign in range
@@ -69,6 +68,12 @@ pub record Standing (s : List ℕ) (from n : ℕ) : Type 0 where
 pub record Unsigned (s : List ℕ) (from : ℕ) (r : Whole) : Type 0 where
   pub sound : (d : Digits) → r ≡ W.Of d → Spells s from d
   pub complete : {n : ℕ} (a : Standing s from n) → r ≡ W.Of (record { value = n; to = from + length (a .bytes) })
+
+-- the place after a minus, if one stands there
+pub record PastMinus (s : List ℕ) (from to : ℕ) : Type 0 where
+  pub none : to ≡ from → getD s from 0 ≡ 45 → ⊥
+  pub one : (to ≡ from → ⊥) → (getD s from 0 ≡ 45) × (to ≡ from + 1)
+  pub stands : Ended s to
 
 -- the same under either sign
 pub record Names (s : List ℕ) (from : ℕ) (r : Found) : Type 0 where

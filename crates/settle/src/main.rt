@@ -14,10 +14,20 @@ ghost use Rattle.sheets.specs.Buffer.{bufferLength};
 ghost use Rattle.feed.specs.Reader.{lengthOf};
 ghost use Rattle.feed.specs.Feeding.{Through};
 
+// So much is read at once: a line that a block ends within costs about as much as a hundred others.
+const BLOCK: usize = 262144;
+
 // The reader after some input, and whether all that it printed could be written out.
 struct Passed {
     reader: Reader,
     wrote: bool,
+}
+
+// The block that is read into.
+fn no_block() -> [u8; BLOCK]
+    ensures { λ r. ⌜ 262144 ≡ length r ⌝ }
+{
+    [0u8; BLOCK]
 }
 
 // The buffer that the reader prints into.
@@ -56,9 +66,8 @@ fn fed(reader: Reader, block: &[u8], out: &mut [u8]) -> Passed
             };
         }
         let part = now.feed(&block[i..], out);
-        let next = part.reader;
         let printed = part.printed;
-        now = next;
+        now = part.reader;
         i += part.used;
         if !written(printed, out) {
             return Passed {
@@ -74,11 +83,10 @@ fn fed(reader: Reader, block: &[u8], out: &mut [u8]) -> Passed
 }
 
 // Reads once, and settles what came, or the input's end.
-fn turn(reader: Reader, out: &mut [u8]) -> Passed
+fn turn(reader: Reader, block: &mut [u8], out: &mut [u8]) -> Passed
     requires { ⌜ bufferLength ≤ length (now out) ⌝ }
 {
-    let mut block = io::large_buffer();
-    let n = io::count(libc::read(STDIN_FILENO, &mut block), &block);
+    let n = io::count(libc::read(STDIN_FILENO, block), block);
     if n != 0 {
         return fed(reader, &block[..n], out);
     }
@@ -94,18 +102,18 @@ fn turn(reader: Reader, out: &mut [u8]) -> Passed
 // A proved loop has to end, and nothing says that an input does: it counts down from a number that no input uses up.
 fn main() {
     let mut reader = Reader::new();
+    let mut block = no_block();
     let mut out = blank();
     let mut turns = u64::MAX;
     while turns > 0 {
         if reader.is_closed() {
             return;
         }
-        let passed = turn(reader, &mut out);
+        let passed = turn(reader, &mut block, &mut out);
         if !passed.wrote {
             return;
         }
-        let next = passed.reader;
-        reader = next;
+        reader = passed.reader;
         turns -= 1;
     }
 }

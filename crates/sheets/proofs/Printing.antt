@@ -33,6 +33,13 @@ written {n = n} {d = d} {text = text} room p h k s w =
     let e : leb (length text) (length d) ≡ true = le-leb (length text) (length d) (omega arith) in
     (rw e (ap Length (length-known w (omega arith))), (rw e (at-start (w .wrote) (omega arith)), omega arith))
 
+-- where there is room for every text of its kind, it needs no measure
+pub written-at-once : {most r : ℕ} {d d′ text : List ℕ} (room : ℕ) → most ≤ room → room ≤ last → room ≤ length d
+    → WroteUpTo most d 0 text r d′ → (Length r ≡ printAnswer d text) × ((d′ ≡ printInto d text) × (length text ≤ room))
+written-at-once {d = d} {text = text} room h k s w =
+    let e : leb (length text) (length d) ≡ true = le-leb (length text) (length d) (omega (arith, w .short)) in
+    (rw e (ap Length (length-known w (omega arith))), (rw e (at-start (w .wrote) (omega arith)), omega (arith, w .short)))
+
 -- a buffer that has room for every text of its kind is never too short
 pub room-enough : (d text : List ℕ) (room : ℕ) → length text ≤ room → room ≤ length d → printAnswer d text ≡ Length (length text)
 room-enough d text room h k = rw (le-leb (length text) (length d) (omega arith))

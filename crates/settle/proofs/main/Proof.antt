@@ -1,26 +1,29 @@
 -- `settle::main` meets its contract. Assumes nothing.
-use Rattle.sheets.specs.Buffer.{bufferLength}
-use lib.ListN.{length}
-use native.Mathlib.Omega.{arith}
-use mathlib.Core.Path.{_≡_}
 use borrow.Author.Needs.{needs}
+use mathlib.Core.Path.{_≡_}
+use native.Mathlib.Omega.{arith}
+use lib.ListN.{length}
+use Rattle.sheets.specs.Buffer.{bufferLength}
 use Rattle.settle.proofs.main.Statement.{statement}
 use Rattle.settle.proofs.main.Tie as tie
 
 abbrev Inv-loop : tie.InvT-loop
-Inv-loop reader₀ out₀ turns₀ reader out turns = bufferLength ≡ length out
+Inv-loop reader₀ block₀ out₀ turns₀ reader block out turns = (262144 ≡ length block) × (bufferLength ≡ length out)
 
 abbrev μ-loop : tie.MeasureT-loop
-μ-loop reader₀ out₀ turns₀ reader out turns = turns
+μ-loop reader₀ block₀ out₀ turns₀ reader block out turns = turns
 
 new-requires : tie.Need-new-requires Inv-loop μ-loop
 new-requires c κs = search needs
+
+no-block-requires : tie.Need-no-block-requires Inv-loop μ-loop
+no-block-requires c κs = search needs
 
 blank-requires : tie.Need-blank-requires Inv-loop μ-loop
 blank-requires c κs = search needs
 
 loop-holds : tie.Need-loop-holds Inv-loop μ-loop
-loop-holds c = c .blank .ensures
+loop-holds c = (c .before .no-block .ensures, c .blank .ensures)
 
 is-closed-requires : tie.Need-is-closed-requires Inv-loop μ-loop
 is-closed-requires c κs = search needs
@@ -29,10 +32,13 @@ returns : tie.Need-returns Inv-loop μ-loop
 returns c = tt
 
 slice-aggregate-turn : tie.Need-slice-aggregate-turn Inv-loop μ-loop
-slice-aggregate-turn c = c .before .before .before .before .loop .inv
+slice-aggregate-turn c = c .before .before .before .before .loop .inv .0
+
+slice-aggregate-turn-2 : tie.Need-slice-aggregate-turn-2 Inv-loop μ-loop
+slice-aggregate-turn-2 c = c .before .before .before .before .before .loop .inv .1
 
 turn-requires : tie.Need-turn-requires Inv-loop μ-loop
-turn-requires c κs = omega (arith, c .before .before .before .before .loop .inv)
+turn-requires c κs = omega (arith, c .before .before .before .before .before .loop .inv .1)
 
 returns-2 : tie.Need-returns-2 Inv-loop μ-loop
 returns-2 c = tt
@@ -44,7 +50,7 @@ loop-less : tie.Need-loop-less Inv-loop μ-loop
 loop-less c = omega arith
 
 loop-again : tie.Need-loop-again Inv-loop μ-loop
-loop-again c = search (needs, c .before .before .before .before .before .before .before .before .before .loop .inv)
+loop-again c = (search (needs, c .before .before .before .before .before .before .before .before .before .before .before .loop .inv), search (needs, c .before .before .before .before .before .before .before .before .before .before .before .loop .inv))
 
 returns-3 : tie.Need-returns-3 Inv-loop μ-loop
 returns-3 c = tt
@@ -56,11 +62,13 @@ main-spec =
     Inv-loop
     μ-loop
     new-requires
+    no-block-requires
     blank-requires
     loop-holds
     is-closed-requires
     returns
     slice-aggregate-turn
+    slice-aggregate-turn-2
     turn-requires
     returns-2
     sub-turns
