@@ -1,2 +1,6 @@
 pub mod Endings
 pub mod Standing
+pub mod Stretch
+pub mod Filled
+pub mod Accounted
+pub mod Promises

@@ -6,6 +6,7 @@ use lib.IntN.{ℤ}
 use lib.ListN.{length}
 use Rattle.arithmetic.specs.Whole.{up}
 use Rattle.series.specs.Scan.{each}
+use Rattle.vocabulary.specs.declared.refusal.Refusal.{Refusal}
 use Rattle.vocabulary.specs.declared.header.Header.{Header}
 use Rattle.vocabulary.specs.declared.sample.Sample.{Sample}
 use Rattle.vocabulary.specs.declared.recorded.Recorded.{Recorded}
@@ -63,8 +64,9 @@ pub data Times : List Item → List Recorded → List Timed → Type 0 where
   of-repeated : {second : ℤ} {items : List Item} {good : List Recorded} {lines : List Timed} → Times items good lines → Times (repeated second ∷ items) good lines
   of-filled : {second : ℕ} {x : Sample} {items : List Item} {good : List Recorded} {lines : List Timed} → Times items good lines
       → Times (filled second x ∷ items) good (record { second = second; sample = x } ∷ lines)
-  of-kept : {row : Recorded} {items : List Item} {good : List Recorded} {lines : List Timed} → Times items good lines
+  of-kept : (row : Recorded) {items : List Item} {good : List Recorded} {lines : List Timed} → Times items good lines
       → Times (kept (row .sample) ∷ items) (row ∷ good) (record { second = up (row .second); sample = row .sample } ∷ lines)
+  of-refused : {n : ℕ} {refusal : Refusal} {items : List Item} {good : List Recorded} {lines : List Timed} → Times items good lines → Times (refused n refusal ∷ items) good lines
 
 -- so many seconds from place k on: k × interval, (k + 1) × interval, ..
 unfoldable pub seconds : ℕ → ℕ → ℕ → List ℕ
