@@ -4,3 +4,5 @@ pub mod Stretch
 pub mod Filled
 pub mod Accounted
 pub mod Promises
+pub mod SameLine
+pub mod SamplesBack
