@@ -6,3 +6,4 @@ pub mod Accounted
 pub mod Promises
 pub mod SameLine
 pub mod SamplesBack
+pub mod Settles
