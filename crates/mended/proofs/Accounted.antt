@@ -1,8 +1,8 @@
 -- Each line that was accepted is accounted for by one item, in order, beside what is filled in.
 -- Assumes nothing.
 use Prim.Native.Nat.{ℕ, zero, suc, _+_}
-use mathlib.Core.Path.{_≡_, refl, sym, ap, ap₂, _∙_}
-use mathlib.Core.List.{List, [], _∷_, _++_, append-nil}
+use mathlib.Core.Path.{_≡_, refl, ap, _∙_}
+use mathlib.Core.List.{List, [], _∷_, _++_}
 use Rattle.vocabulary.specs.declared.sample.Sample.{Sample}
 use Rattle.vocabulary.specs.declared.recorded.Recorded.{Recorded}
 use Rattle.mending.specs.declared.grid.Grid.{Grid}

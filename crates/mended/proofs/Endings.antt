@@ -11,7 +11,7 @@ use Rattle.series.specs.Scan.{each}
 use Rattle.series.proofs.Each.{each-end}
 use Rattle.vocabulary.specs.Refusals.{accepted}
 use Rattle.vocabulary.specs.Grounds.{first}
-use Rattle.vocabulary.proofs.GroundLaws.{first-holds}
+use Rattle.vocabulary.proofs.GroundLaws.{first-holds, only-first}
 use Rattle.vocabulary.specs.declared.refusal.Refusal.{Refusal}
 use Rattle.vocabulary.specs.declared.refusal.Refusal.the-variants.{NoEnd}
 use Rattle.vocabulary.specs.declared.header.Header.{Header}
@@ -23,7 +23,7 @@ use Rattle.reading.specs.declared.entry.Entry.{Entry}
 use Rattle.reading.specs.declared.entry.Entry.the-variants as E
 use Rattle.mending.specs.declared.grid.Grid.{Grid}
 use Rattle.mending.specs.Mending.{SoFar, nothing, these, over, gridOf, grounds, ground, Item, refused, recordedItems, items, with, says, after, ends, recording}
-use Rattle.mended.specs.Endings.{itemsFrom, itemsOf, printed, Ending, whole, refusedAt, short, atEnd, ending, endingOf, givenIn, refusalIn, lastFilled, filledTo, Accepts, none, more}
+use Rattle.mended.specs.Endings.{itemsFrom, printed, Ending, whole, refusedAt, short, atEnd, ending, endingOf, Accepts, none, more}
 use Rattle.mended.specs.Endings.{SaysSo, no-line, header-and-rows, AcceptedRecording, RefusedRecording, ShortRecording, EndsSo}
 
 -- ---- one line more
@@ -244,3 +244,64 @@ ends-so input (short so n) r = short-so input so n r
 pub recording-ends : (input : List ℕ) → EndsSo input (endingOf input)
 unfolding endingOf
 recording-ends input = ends-so input (ending nothing 1 (linesOf input)) (ends-lines nothing 1 (linesOf input))
+
+-- ---- and in no other way
+
+not-ended : (entry : Entry) (so : SoFar) (rest : Ending) → (entry ≡ E.End → ⊥) → atEnd entry so rest ≡ rest
+not-ended (E.Header h) so rest n = refl
+not-ended (E.Recorded row) so rest n = refl
+not-ended E.End so rest n = absurd (n refl)
+not-ended E.Malformed so rest n = refl
+
+-- an accepted line in front of others
+onward : (so : SoFar) (n : ℕ) (line : List ℕ) (lines : List (List ℕ)) → accepted (ground so (entryOf line)) ≡ true → (entryOf line ≡ E.End → ⊥)
+    → ending so n (line ∷ lines) ≡ ending (with so (entryOf line)) (n + 1) lines
+unfolding ending
+onward so n line lines a u = rw a (not-ended (entryOf line) so (ending (with so (entryOf line)) (n + 1) lines) u)
+
+only-whole : {so to : SoFar} {before : List (List ℕ)} (n : ℕ) (end : List ℕ) (rest : List (List ℕ)) → Accepts so before to → entryOf end ≡ E.End
+    → accepted (ground to E.End) ≡ true → ending so n (before ++ (end ∷ rest)) ≡ whole to
+unfolding ending
+only-whole n end rest none e a = rw (e, a)
+only-whole n end rest (more {so} {line = line} {lines = lines} f u r) e a = onward so n line (lines ++ (end ∷ rest)) f u ∙ only-whole (n + 1) end rest r e a
+
+only-refused : {so to : SoFar} {before : List (List ℕ)} (n : ℕ) (line : List ℕ) (rest : List (List ℕ)) → Accepts so before to → accepted (ground to (entryOf line)) ≡ false
+    → ending so n (before ++ (line ∷ rest)) ≡ refusedAt to (n + length before) (ground to (entryOf line))
+unfolding ending
+only-refused n line rest none a = rw (a, at-once n)
+only-refused n line rest (more {so} {last = to} {line = other} {lines = lines} f u r) a =
+    onward so n other (lines ++ (line ∷ rest)) f u ∙ only-refused (n + 1) line rest r a
+    ∙ ap (λ (m : ℕ). refusedAt to m (ground to (entryOf line))) (shifted n (length lines))
+
+only-short : {so to : SoFar} {lines : List (List ℕ)} (n : ℕ) → Accepts so lines to → ending so n lines ≡ short to (n + length lines)
+unfolding ending
+only-short n none = rw (at-once n)
+only-short n (more {so} {last = to} {line = line} {lines = lines} f u r) =
+    onward so n line lines f u ∙ only-short (n + 1) r ∙ ap (λ (m : ℕ). short to m) (shifted n (length lines))
+
+pub accepted-ends : {input : List ℕ} {h : Header} {rows : List Recorded} → AcceptedRecording input h rows → endingOf input ≡ whole (these h rows)
+unfolding endingOf
+accepted-ends a = ap (ending nothing 1) (a .lines) ∙ only-whole 1 (a .end) (a .rest) (a .accepts) (a .said-end) (a .accepted-end)
+
+refused-ends : {input : List ℕ} {so : SoFar} {n : ℕ} {refusal : Refusal} → RefusedRecording input so n refusal → endingOf input ≡ refusedAt so n refusal
+unfolding endingOf
+refused-ends {so = so} {n = n} r =
+    let same = only-first (r .first) in
+    let number : n ≡ 1 + length (r .before) = omega (arith, r .number) in
+    ap (ending nothing 1) (r .lines)
+    ∙ only-refused 1 (r .line) (r .rest) (r .accepts) (rw same at (r .given))
+    ∙ ap₂ (refusedAt so) (sym number) (sym same)
+
+short-ends : {input : List ℕ} {so : SoFar} {n : ℕ} → ShortRecording input so n → endingOf input ≡ short so n
+unfolding endingOf
+short-ends {input} {so} {n} r =
+    let number : n ≡ 1 + length (linesOf input) = omega (arith, r .number) in
+    only-short 1 (r .accepts) ∙ ap (short so) (sym number)
+
+-- AN INPUT ENDS IN NO OTHER WAY
+pub only-ending : (input : List ℕ) (e : Ending) → EndsSo input e → endingOf input ≡ e
+only-ending input (whole nothing) r = absurd r
+only-ending input (whole (these h rows)) r = accepted-ends r
+only-ending input (whole over) r = absurd r
+only-ending input (refusedAt so n refusal) r = refused-ends r
+only-ending input (short so n) r = short-ends r

@@ -1,7 +1,7 @@
 -- What is filled in: each has the values of the last good sample before it, and no more than 60 seconds in a row are.
 -- Assumes nothing.
 use Prim.Native.Nat.{ℕ, zero, suc, _+_, _*_, _≤_}
-use mathlib.Core.Path.{_≡_, refl, sym, ap, subst, _∙_}
+use mathlib.Core.Path.{_≡_, ap, subst, _∙_}
 use mathlib.Core.List.{List, [], _∷_, _++_, append-assoc, append-nil}
 use native.Mathlib.Omega.{arith}
 use native.Mathlib.Nat.{mul-le-mul-right}
@@ -16,7 +16,7 @@ use Rattle.mending.specs.declared.grid.Grid.{Grid}
 use Rattle.mending.specs.Mending.{secondsOf, Item, stray, repeated, filled, kept, refused, filledFrom}
 use Rattle.mended.specs.Promises.{keptIn, filledIn, sampleOf, EndsIn}
 use Rattle.mended.proofs.Standing.{Dropped, as-stray, as-repeated, Mends, no-line, drops, begins, goes-on}
-use Rattle.mended.proofs.Stretch.{kept-both, none-kept, mends-kept}
+use Rattle.mended.proofs.Stretch.{mends-kept}
 
 -- ---- each after the samples that were kept before it
 

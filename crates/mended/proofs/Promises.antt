@@ -1,10 +1,9 @@
 -- THE PROMISES OVER RECORDINGS, by name.
 -- Assumes nothing.
-use Prim.Native.Nat.{ℕ, _+_, _*_}
+use Prim.Native.Nat.{ℕ, _*_}
 use mathlib.Core.Path.{_≡_, refl, sym, ap, subst, _∙_}
 use mathlib.Core.Bool.{true}
 use mathlib.Core.List.{List, [], _∷_, _++_, append-nil}
-use lib.ListN.{length}
 use Rattle.arithmetic.specs.Whole.{up}
 use Rattle.series.specs.Scan.{each}
 use Rattle.vocabulary.specs.Interval.{windowsOf}
@@ -18,10 +17,10 @@ use Rattle.settlement.specs.Calls.{headerGrounds}
 use Rattle.reading.specs.declared.entry.Entry.{Entry}
 use Rattle.reading.specs.declared.entry.Entry.the-variants as E
 use Rattle.mending.specs.declared.grid.Grid.{Grid}
-use Rattle.mending.specs.Mending.{SoFar, nothing, these, over, gridOf, secondsOf, goodOf, lastOf, nextPlace, recordedGrounds, endGrounds, grounds}
-use Rattle.mending.specs.Mending.{Item, refused, filledFrom, fillings, recording}
+use Rattle.mending.specs.Mending.{SoFar, nothing, these, over, gridOf, goodOf, lastOf, nextPlace, recordedGrounds, endGrounds, grounds}
+use Rattle.mending.specs.Mending.{Item, refused, filledFrom, recording}
 use Rattle.mended.specs.Endings.{itemsOf, Ending, whole, refusedAt, short, endingOf, givenIn, refusalIn, AcceptedRecording, EndsSo}
-use Rattle.mended.specs.Promises.{samplesIn, keptIn, filledIn, sampleOf, WholeStretch, FilledIsLastGood, FilledAtMost60, unfilled, EachLineAccounted}
+use Rattle.mended.specs.Promises.{keptIn, sampleOf, WholeStretch, FilledIsLastGood, FilledAtMost60, unfilled, EachLineAccounted}
 use Rattle.mended.proofs.Endings.{recording-ends}
 use Rattle.mended.proofs.Standing.{Mends, Closes, accepted-mend, accepted-close}
 use Rattle.mended.proofs.Stretch.{kept-both, none-kept, mends-kept, Covers, covers-on, covers-filled, covers-number, mends-cover}

@@ -1,14 +1,14 @@
 -- D and E say in a recording what they say in a settlement.
 -- Assumes nothing.
 use Prim.Native.Nat.{ℕ}
-use mathlib.Core.Path.{_≡_, refl, sym, ap, _∙_}
-use mathlib.Core.Bool.{Bool, true, false, cond, _&&_}
+use mathlib.Core.Path.{_≡_, refl}
+use mathlib.Core.Bool.{Bool, true, false, cond}
 use mathlib.Core.List.{List}
 use native.Mathlib.Omega.{arith}
 use borrow.Author.Tests.{eqb-true}
 use lib.Dec.{eqb, ltb}
 use lib.ListN.{length, getD}
-use Rattle.arithmetic.proofs.Booleans.{both, true-false}
+use Rattle.arithmetic.proofs.Booleans.{both}
 use Rattle.fields.specs.Fields.{fields, fieldAt}
 use Rattle.fields.specs.Numbers.{numberOf}
 use Rattle.fields.specs.declared.number.Number.{Number}

@@ -1,15 +1,15 @@
 -- The S lines that are printed for a recording are read by a settlement as the samples that they were printed for.
 -- Assumes nothing.
 use Prim.Native.Nat.{ℕ, zero, suc, _+_, _≤_}
-use mathlib.Core.Path.{_≡_, refl, sym, ap, ap₂, _∙_}
-use mathlib.Core.Bool.{Bool, true, cond}
+use mathlib.Core.Path.{_≡_, refl, ap, ap₂, subst, _∙_}
+use mathlib.Core.Bool.{true}
 use mathlib.Core.List.{List, [], _∷_, _++_, append-assoc, append-nil}
 use native.Mathlib.Omega.{arith}
 use lib.IntN.{ℤ, pos}
 use lib.ListN.{length}
 use Rattle.series.specs.Scan.{each}
-use Rattle.series.proofs.Each.{each-join}
 use Rattle.vocabulary.specs.Sample.{powerInRange}
+use Rattle.vocabulary.specs.declared.refusal.Refusal.{Refusal}
 use Rattle.vocabulary.specs.declared.sample.Sample.{Sample}
 use Rattle.vocabulary.specs.declared.recorded.Recorded.{Recorded}
 use Rattle.channel.proofs.HandedOn.{power-small}
@@ -26,7 +26,7 @@ use Rattle.samples.proofs.LineForm.{Shape, lineIn, shape-lines, shape-says}
 use Rattle.meaning.specs.Endings.{FairSample, Each, of-none, of-more}
 use Rattle.join.proofs.NumberBack.{Visible, number-visible, number-back}
 use Rattle.mending.specs.declared.grid.Grid.{Grid}
-use Rattle.mending.specs.Mending.{Item, stray, repeated, filled, kept, filledFrom, sampleText, markText, itemText, itemsText}
+use Rattle.mending.specs.Mending.{Item, stray, repeated, filled, kept, refused, filledFrom, sampleText, markText, itemText, itemsText}
 use Rattle.mended.specs.Promises.{samplesIn, EndsIn}
 use Rattle.mended.specs.Settles.{sampleLines}
 use Rattle.mended.proofs.Standing.{Dropped, as-stray, as-repeated, Mends, no-line, drops, begins, goes-on, Closes}
@@ -159,6 +159,12 @@ plain-fair (of-repeated p) = plain-fair p
 plain-fair (of-filled f p) = of-more f (plain-fair p)
 plain-fair (of-kept f p) = of-more f (plain-fair p)
 
+no-refusal : (before after : List Item) (l : ℕ) (r : Refusal) → Plain (before ++ (refused l r ∷ after)) → ⊥
+no-refusal (stray second ∷ before) after l r (of-stray p) = no-refusal before after l r p
+no-refusal (repeated second ∷ before) after l r (of-repeated p) = no-refusal before after l r p
+no-refusal (filled second x ∷ before) after l r (of-filled f p) = no-refusal before after l r p
+no-refusal (kept x ∷ before) after l r (of-kept f p) = no-refusal before after l r p
+
 plain-both : {a b : List Item} → Plain a → Plain b → Plain (a ++ b)
 plain-both no-item q = q
 plain-both (of-stray p) q = of-stray (plain-both p q)
@@ -218,3 +224,7 @@ module _ {t : Grid} {rows good : List Recorded} {items : List Item} {n : ℕ} (m
   -- AND READ BACK
   pub all-back : each lineOf (sampleLines (linesOf (itemsText all))) ≡ each L.Sample (samplesIn all)
   all-back = ap (each lineOf) (plain-lines plain-all) ∙ samples-back all-fair
+
+  -- NONE IS A REFUSAL
+  pub none-refused : (before after : List Item) (l : ℕ) (r : Refusal) → all ≡ before ++ (refused l r ∷ after) → ⊥
+  none-refused before after l r e = no-refusal before after l r (subst Plain e plain-all)

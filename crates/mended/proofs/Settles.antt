@@ -1,14 +1,13 @@
 -- A MENDED RECORDING SETTLES.
 -- Assumes nothing.
-use Prim.Native.Nat.{ℕ, _+_, _*_}
-use mathlib.Core.Path.{_≡_, refl, sym, ap, _∙_}
+use Prim.Native.Nat.{ℕ}
+use mathlib.Core.Path.{_≡_, sym, ap, _∙_}
 use mathlib.Core.Bool.{false}
-use mathlib.Core.List.{List, [], _∷_, _++_}
+use mathlib.Core.List.{List, _∷_, _++_}
 use native.Mathlib.Omega.{arith}
 use lib.ListN.{length}
-use Rattle.arithmetic.specs.Whole.{up}
 use Rattle.series.specs.Scan.{each}
-use Rattle.vocabulary.specs.Interval.{windowsOf}
+use Rattle.vocabulary.specs.declared.refusal.Refusal.{Refusal}
 use Rattle.vocabulary.specs.declared.header.Header.{Header}
 use Rattle.vocabulary.specs.declared.recorded.Recorded.{Recorded}
 use Rattle.lines.specs.Lines.{linesOf}
@@ -16,22 +15,22 @@ use Rattle.reading.specs.Line.{lineOf}
 use Rattle.reading.specs.Entry.{entryOf}
 use Rattle.reading.specs.declared.Line.the-variants as L
 use Rattle.reading.specs.declared.entry.Entry.the-variants as E
-use Rattle.meaning.specs.Given.{Given, intervalIn, quartersIn, perQuarter}
-use Rattle.meaning.specs.Meaning.{these, lacks, allSamples}
+use Rattle.meaning.specs.Given.{Given, intervalIn}
+use Rattle.meaning.specs.Meaning.{lacks, allSamples}
 use Rattle.meaning.specs.Endings.{FairSample, Each, Proper, AcceptedInput}
 use Rattle.meaning.proofs.Inputs.{accepted-input}
 use Rattle.join.specs.Says.{Says}
 use Rattle.join.proofs.Accepting.{first-same}
 use Rattle.join.proofs.SaidAccepted.{full-start, said-ends}
 use Rattle.join.proofs.Inputs.{accepted-says}
-use Rattle.mending.specs.Mending.{SoFar, gridOf, Item, filledFrom, goodOf, lastOf, nextPlace, itemsText, recording, mended}
+use Rattle.mending.specs.Mending.{gridOf, Item, refused, filledFrom, goodOf, lastOf, nextPlace, recording, mended}
 use Rattle.mending.specs.Mending as M
 use Rattle.mended.specs.Endings.{itemsOf, SaysSo, header-and-rows, AcceptedRecording}
 use Rattle.mended.specs.Promises.{samplesIn}
 use Rattle.mended.specs.Settles.{Contracted, sampleLines, MadeOf, mendedGiven}
 use Rattle.mended.proofs.Standing.{Closes, accepted-mend, accepted-close}
 use Rattle.mended.proofs.SameLine.{same-header}
-use Rattle.mended.proofs.SamplesBack.{all-fair, all-back}
+use Rattle.mended.proofs.SamplesBack.{all-fair, all-back, none-refused}
 use Rattle.mended.proofs.Promises.{whole-stretch}
 
 -- the first line is D
@@ -56,6 +55,10 @@ module _ {recorded : List ℕ} {h : Header} {rows : List Recorded} (a : Accepted
   samples-read : each lineOf (sampleLines (linesOf (mended recorded))) ≡ each L.Sample (samplesIn (recording recorded))
   unfolding mended
   samples-read = rw items-are (all-back (accepted-mend (a .accepts)) close)
+
+  -- R is not printed for it
+  pub accepted-not-refused : (before after : List Item) (n : ℕ) (refusal : Refusal) → recording recorded ≡ before ++ (refused n refusal ∷ after) → ⊥
+  accepted-not-refused before after n refusal e = none-refused (accepted-mend (a .accepts)) close before after n refusal (sym items-are ∙ e)
 
   module _ {g : Given} {block contracts : List (List ℕ)} {input : List ℕ} (same : g .header ≡ h) (deals : Contracted g block contracts) (made : MadeOf recorded block contracts input) where
     abbrev given : Given

@@ -1,23 +1,21 @@
 -- How what is printed grows with the lines that are accepted: the good lines rise from place to place, and what is missing between two of them is filled.
 -- Assumes nothing.
-use Prim.Native.Nat.{ℕ, suc, _+_, _*_, _-_, _/_, _%_, _≤_, _<_}
-use mathlib.Core.Path.{_≡_, refl, sym, ap, subst, _∙_}
+use Prim.Native.Nat.{ℕ, _+_, _*_, _-_, _/_, _%_, _≤_, _<_}
+use mathlib.Core.Path.{_≡_, refl, sym, ap, _∙_}
 use mathlib.Core.Bool.{Bool, true, false, cond, not, _&&_, _||_}
-use mathlib.Core.List.{List, [], _∷_, _++_, append-assoc, append-nil}
+use mathlib.Core.List.{List, [], _∷_, _++_}
 use native.Mathlib.Omega.{arith}
 use native.Mathlib.Decide.{decLe}
 use native.Mathlib.Nat.{lt-of-not-le, div-add-mod', mul-le-mul-right, add-zero, zero-div}
 use borrow.Author.Tests.{leb-false, ltb-false, eqb-true, not-false}
-use lib.Dec.{eqb, leb, ltb, lit<}
+use lib.Dec.{eqb, leb, lit<}
 use lib.IntN.{ℤ, pos}
-use lib.Signed.{ltZ, leZ}
+use lib.Signed.{ltZ}
 use Rattle.arithmetic.specs.Whole.{up, down}
-use Rattle.arithmetic.proofs.Signed.{le-true, lt-false, true-le, up-pos, down-pos, down-zero, eq-of}
+use Rattle.arithmetic.proofs.Signed.{lt-false, true-le, up-pos, down-pos, down-zero, eq-of}
 use Rattle.arithmetic.proofs.Booleans.{true-false, neither}
 use Rattle.vocabulary.specs.Refusals.{accepted}
 use Rattle.vocabulary.specs.Grounds.{first}
-use Rattle.vocabulary.specs.Sample.{powerInRange}
-use Rattle.vocabulary.specs.declared.refusal.Refusal.{Refusal}
 use Rattle.vocabulary.specs.declared.refusal.Refusal.the-variants.{None, BadPower, NoFirstSample, HoleTooLong, SecondsOutOfOrder}
 use Rattle.vocabulary.specs.declared.header.Header.{Header}
 use Rattle.vocabulary.specs.declared.recorded.Recorded.{Recorded}

@@ -70,17 +70,6 @@ refusalIn (whole so) = []
 refusalIn (refusedAt so n refusal) = refused n refusal ∷ []
 refusalIn (short so n) = refused n NoEnd ∷ []
 
--- what is filled in at E
-abbrev pub filledTo : SoFar → List Item
-filledTo nothing = []
-filledTo (these h rows) = fillings (gridOf h) rows (gridOf h .places)
-filledTo over = []
-
-abbrev pub lastFilled : Ending → List Item
-lastFilled (whole so) = filledTo so
-lastFilled (refusedAt so n refusal) = []
-lastFilled (short so n) = []
-
 -- ---- what an ending says of the lines
 
 -- lines that are accepted one after the other, none of them E: what was given before them, and with them

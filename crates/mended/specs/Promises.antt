@@ -11,7 +11,6 @@ use Rattle.vocabulary.specs.declared.header.Header.{Header}
 use Rattle.vocabulary.specs.declared.sample.Sample.{Sample}
 use Rattle.vocabulary.specs.declared.recorded.Recorded.{Recorded}
 use Rattle.vocabulary.specs.Interval.{windowsOf}
-use Rattle.mending.specs.declared.grid.Grid.{Grid}
 use Rattle.mending.specs.Mending.{gridOf, secondsOf, goodOf, Item, stray, repeated, filled, kept, refused, recording}
 use Rattle.mended.specs.Endings.{endingOf, refusalIn}
 
