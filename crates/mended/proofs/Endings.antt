@@ -106,12 +106,6 @@ module _ (n : ℕ) (line : List ℕ) (lines : List (List ℕ)) (so : SoFar) wher
           let m = shifted n (length lines) in
           rw m (by-stop (more a u c) (rw m at (printed-on ∙ p)))
 
-      not-at-end : (other : Entry) → other ≡ entry → (rest : Ending) → atEnd other so rest ≡ rest
-      not-at-end (E.Header h) e rest = refl
-      not-at-end (E.Recorded row) e rest = refl
-      not-at-end E.End e rest = absurd (u (sym e))
-      not-at-end E.Malformed e rest = refl
-
     -- an E
     at-the-end : entry ≡ E.End → Ends so n (line ∷ lines) (whole so)
     at-the-end e =
@@ -124,7 +118,8 @@ module _ (n : ℕ) (line : List ℕ) (lines : List (List ℕ)) (so : SoFar) wher
         ∙ ap (λ (l : List Item). items so E.End ++ l) (walk-over (n + 1) lines)
         ∙ append-nil (items so E.End)))
 
-    ends-accepted : ((p : SoFar) → Ends p (n + 1) lines (ending p (n + 1) lines)) → (other : Entry) → other ≡ entry → Ends so n (line ∷ lines) (atEnd other so (ending (with so entry) (n + 1) lines))
+    ends-accepted : ((p : SoFar) → Ends p (n + 1) lines (ending p (n + 1) lines)) → (other : Entry) → other ≡ entry
+        → Ends so n (line ∷ lines) (atEnd other so (ending (with so entry) (n + 1) lines))
     ends-accepted follows (E.Header h) e = in-front (λ d. let z : _≡_ {A = ℕ} 0 1 = cc in omega arith) (follows (with so entry))
     ends-accepted follows (E.Recorded row) e = in-front (λ d. let z : _≡_ {A = ℕ} 0 1 = cc in omega arith) (follows (with so entry))
     ends-accepted follows E.End e = at-the-end (sym e)
