@@ -14,7 +14,7 @@ use Rattle.vocabulary.specs.declared.sample.Sample.{Sample}
 use Rattle.vocabulary.specs.declared.recorded.Recorded.{Recorded}
 use Rattle.mending.specs.declared.grid.Grid.{Grid}
 use Rattle.mending.specs.Mending.{secondsOf, Item, stray, repeated, filled, kept, refused, filledFrom}
-use Rattle.mended.specs.Promises.{keptIn, filledIn, sampleOf, EndsIn}
+use Rattle.mended.specs.Promises.{samplesIn, unfilled, keptIn, sampleOf, EndsIn}
 use Rattle.mended.proofs.Standing.{Dropped, as-stray, as-repeated, Mends, no-line, drops, begins, goes-on}
 use Rattle.mended.proofs.Stretch.{mends-kept}
 
@@ -29,7 +29,7 @@ data Copies : List Sample → List Item → Type 0 where
   of-refused : {done : List Sample} {n : ℕ} {refusal : Refusal} {items : List Item} → Copies done items → Copies done (refused n refusal ∷ items)
 
 copies-both : {done : List Sample} {a b : List Item} → Copies done a → Copies (done ++ keptIn a) b → Copies done (a ++ b)
-unfolding keptIn
+unfolding samplesIn unfilled
 copies-both {done} no-item r = rw (append-nil done) at r
 copies-both (of-stray l) r = of-stray (copies-both l r)
 copies-both (of-repeated l) r = of-repeated (copies-both l r)
@@ -39,7 +39,7 @@ copies-both (of-refused l) r = of-refused (copies-both l r)
 
 -- so each, wherever it stands
 copies-at : (done : List Sample) (before after : List Item) (second : ℕ) (x : Sample) → Copies done (before ++ (filled second x ∷ after)) → EndsIn x (done ++ keptIn before)
-unfolding keptIn
+unfolding samplesIn unfilled
 copies-at done [] after second x (of-filled e l) = rw (append-nil done) e
 copies-at done (stray s ∷ before) after second x (of-stray l) = copies-at done before after second x l
 copies-at done (repeated s ∷ before) after second x (of-repeated l) = copies-at done before after second x l
@@ -112,21 +112,21 @@ rows-from (kept x ∷ a) b h (of-kept r) = rows-from a b (omega arith) r
 rows-from (refused n x ∷ a) b h (of-refused r) = rows-from a b h r
 
 -- items of which none is kept
-rows-run : {interval c e : ℕ} (a b : List Item) → keptIn a ≡ [] → c * interval ≤ 60 → Rows interval c (a ++ b) e → (c + filledIn a) * interval ≤ 60
-unfolding keptIn filledIn
+rows-run : {interval c e : ℕ} (a b : List Item) → keptIn a ≡ [] → c * interval ≤ 60 → Rows interval c (a ++ b) e → (c + length (samplesIn a)) * interval ≤ 60
+unfolding samplesIn unfilled
 rows-run {interval} {c} [] b k h r = let e : c + 0 ≡ c = omega arith in rw e h
 rows-run (stray s ∷ a) b k h (of-stray r) = rows-run a b k h r
 rows-run (repeated s ∷ a) b k h (of-repeated r) = rows-run a b k h r
-rows-run {c = c} (filled s x ∷ a) b k h (of-filled l r) = let e : c + 1 + filledIn a ≡ c + (filledIn a + 1) = omega arith in rw e at (rows-run a b k l r)
+rows-run {c = c} (filled s x ∷ a) b k h (of-filled l r) = let e : c + 1 + length (samplesIn a) ≡ c + suc (length (samplesIn a)) = omega arith in rw e at (rows-run a b k l r)
 rows-run (kept x ∷ a) b k h (of-kept r) = absurd (omega (arith, ap length k))
 rows-run (refused n x ∷ a) b k h (of-refused r) = rows-run a b k h r
 
 -- NO MORE THAN 60 SECONDS, wherever no good sample comes between
-rows-between : {interval e : ℕ} (before between after : List Item) → Rows interval 0 (before ++ (between ++ after)) e → keptIn between ≡ [] → filledIn between * interval ≤ 60
+rows-between : {interval e : ℕ} (before between after : List Item) → Rows interval 0 (before ++ (between ++ after)) e → keptIn between ≡ [] → length (samplesIn between) * interval ≤ 60
 rows-between {interval} before between after r k =
     let f = rows-from before (between ++ after) (omega arith) r in
     let h = rows-run between after k (f .small) (f .rows) in
-    let less : filledIn between ≤ f .so-far + filledIn between = omega arith in
+    let less : length (samplesIn between) ≤ f .so-far + length (samplesIn between) = omega arith in
     omega (arith, mul-le-mul-right interval less)
 
 rows-filled : (t : Grid) (x : Sample) (n k c : ℕ) → (c + k) * secondsOf t ≤ 60 → Rows (secondsOf t) c (filledFrom t x n k) (c + k)
@@ -153,14 +153,14 @@ mends-rows {t} (goes-on {n = n} {g = g} row k i f w e s m) =
 
 module _ {t : Grid} {rows good : List Recorded} {items : List Item} {n : ℕ} (m : Mends t rows good items n) where
   pub filled-few : (x : Sample) (k : ℕ) → k * secondsOf t ≤ 60 → (before between after : List Item) → items ++ filledFrom t x n k ≡ before ++ (between ++ after)
-      → keptIn between ≡ [] → filledIn between * secondsOf t ≤ 60
+      → keptIn between ≡ [] → length (samplesIn between) * secondsOf t ≤ 60
   filled-few x k h before between after same none =
       let e : 0 + k ≡ k = omega arith in
       let r = rows-both (mends-rows m) (rows-filled t x n k 0 (rw e h)) in
       rows-between before between after (subst (λ (l : List Item). Rows (secondsOf t) 0 l (0 + k)) same r) none
 
   pub refused-few : (l : ℕ) (r : Refusal) (before between after : List Item) → items ++ (refused l r ∷ []) ≡ before ++ (between ++ after) → keptIn between ≡ []
-      → filledIn between * secondsOf t ≤ 60
+      → length (samplesIn between) * secondsOf t ≤ 60
   refused-few l r before between after same none =
       let one = rows-both (mends-rows m) (of-refused no-item) in
       rows-between before between after (subst (λ (x : List Item). Rows (secondsOf t) 0 x 0) same one) none

@@ -20,7 +20,7 @@ use Rattle.mending.specs.declared.grid.Grid.{Grid}
 use Rattle.mending.specs.Mending.{SoFar, nothing, these, over, gridOf, goodOf, lastOf, nextPlace, recordedGrounds, endGrounds, grounds}
 use Rattle.mending.specs.Mending.{Item, refused, filledFrom, recording}
 use Rattle.mended.specs.Endings.{itemsOf, Ending, whole, refusedAt, short, endingOf, givenIn, refusalIn, AcceptedRecording, EndsSo}
-use Rattle.mended.specs.Promises.{keptIn, sampleOf, WholeStretch, FilledIsLastGood, FilledAtMost60, unfilled, EachLineAccounted}
+use Rattle.mended.specs.Promises.{samplesIn, keptIn, sampleOf, WholeStretch, FilledIsLastGood, FilledAtMost60, unfilled, EachLineAccounted}
 use Rattle.mended.proofs.Endings.{recording-ends}
 use Rattle.mended.proofs.Standing.{Mends, Closes, accepted-mend, accepted-close}
 use Rattle.mended.proofs.Stretch.{kept-both, none-kept, mends-kept, Covers, covers-on, covers-filled, covers-number, mends-cover}
@@ -97,7 +97,7 @@ module _ (input : List ℕ) (h : Header) (rows : List Recorded) (given : givenIn
   good = goodOf t rows
 
   tail-not-kept : {n : ℕ} {tail refusal : List Item} → Tail t rows good n tail refusal → keptIn tail ≡ []
-  unfolding keptIn
+  unfolding samplesIn unfilled
   tail-not-kept {n} (filling c) = none-kept t (c .g .sample) n (c .missing)
   tail-not-kept (refusing l r) = refl
 

@@ -15,13 +15,13 @@ use Rattle.vocabulary.specs.declared.sample.Sample.{Sample}
 use Rattle.vocabulary.specs.declared.recorded.Recorded.{Recorded}
 use Rattle.mending.specs.declared.grid.Grid.{Grid}
 use Rattle.mending.specs.Mending.{secondsOf, Item, stray, repeated, filled, kept, refused, filledFrom}
-use Rattle.mended.specs.Promises.{samplesIn, keptIn, sampleOf, Timed, timeOf, Times, no-item, of-stray, of-repeated, of-filled, of-kept, of-refused, seconds}
+use Rattle.mended.specs.Promises.{samplesIn, unfilled, keptIn, sampleOf, Timed, timeOf, Times, no-item, of-stray, of-repeated, of-filled, of-kept, of-refused, seconds}
 use Rattle.mended.proofs.Standing.{Dropped, as-stray, as-repeated, Mends, no-line, drops, begins, goes-on}
 
 -- ---- the kept ones
 
 pub kept-both : (a b : List Item) → keptIn (a ++ b) ≡ keptIn a ++ keptIn b
-unfolding keptIn
+unfolding samplesIn unfilled
 kept-both [] b = refl
 kept-both (stray second ∷ a) b = kept-both a b
 kept-both (repeated second ∷ a) b = kept-both a b
@@ -30,23 +30,23 @@ kept-both (kept x ∷ a) b = ap (λ (l : List Sample). x ∷ l) (kept-both a b)
 kept-both (refused n refusal ∷ a) b = kept-both a b
 
 pub none-kept : (t : Grid) (x : Sample) (n k : ℕ) → keptIn (filledFrom t x n k) ≡ []
-unfolding keptIn filledFrom
+unfolding samplesIn unfilled filledFrom
 none-kept t x n zero = refl
 none-kept t x n (suc k) = none-kept t x (n + 1) k
 
 dropped-not-kept : {row : Recorded} {item : Item} → Dropped row item → keptIn (item ∷ []) ≡ []
-unfolding keptIn
+unfolding samplesIn unfilled
 dropped-not-kept as-stray = refl
 dropped-not-kept as-repeated = refl
 
 -- some filled ones, and then one that is kept
 filled-and-kept : (t : Grid) (x y : Sample) (n k : ℕ) → keptIn (filledFrom t x n k ++ (kept y ∷ [])) ≡ y ∷ []
-unfolding keptIn
+unfolding samplesIn unfilled
 filled-and-kept t x y n k = kept-both (filledFrom t x n k) (kept y ∷ []) ∙ ap (λ (l : List Sample). l ++ (y ∷ [])) (none-kept t x n k)
 
 -- THEY ARE THE GOOD LINES
 pub mends-kept : {t : Grid} {rows good : List Recorded} {items : List Item} {n : ℕ} → Mends t rows good items n → keptIn items ≡ each sampleOf good
-unfolding keptIn each
+unfolding samplesIn unfilled each
 mends-kept no-line = refl
 mends-kept (drops {items = items} {item = item} d m) =
     kept-both items (item ∷ []) ∙ ap₂ _++_ (mends-kept m) (dropped-not-kept d) ∙ append-nil _

@@ -26,22 +26,16 @@ samplesIn (kept x ∷ items) = x ∷ samplesIn items
 samplesIn (refused n refusal ∷ items) = samplesIn items
 
 -- "leaving out the samples marked M"
-unfoldable pub keptIn : List Item → List Sample
-keptIn [] = []
-keptIn (stray second ∷ items) = keptIn items
-keptIn (repeated second ∷ items) = keptIn items
-keptIn (filled second x ∷ items) = keptIn items
-keptIn (kept x ∷ items) = x ∷ keptIn items
-keptIn (refused n refusal ∷ items) = keptIn items
+unfoldable pub unfilled : List Item → List Item
+unfilled [] = []
+unfilled (stray second ∷ items) = stray second ∷ unfilled items
+unfilled (repeated second ∷ items) = repeated second ∷ unfilled items
+unfilled (filled second x ∷ items) = unfilled items
+unfilled (kept x ∷ items) = kept x ∷ unfilled items
+unfilled (refused n refusal ∷ items) = refused n refusal ∷ unfilled items
 
--- how many are marked M
-unfoldable pub filledIn : List Item → ℕ
-filledIn [] = 0
-filledIn (stray second ∷ items) = filledIn items
-filledIn (repeated second ∷ items) = filledIn items
-filledIn (filled second x ∷ items) = filledIn items + 1
-filledIn (kept x ∷ items) = filledIn items
-filledIn (refused n refusal ∷ items) = filledIn items
+abbrev pub keptIn : List Item → List Sample
+keptIn items = samplesIn (unfilled items)
 
 abbrev pub sampleOf : Recorded → Sample
 sampleOf row = row .sample
@@ -91,10 +85,10 @@ abbrev pub FilledIsLastGood : List ℕ → Type 0
 FilledIsLastGood input =
     (before after : List Item) (second : ℕ) (x : Sample) → recording input ≡ before ++ (filled second x ∷ after) → EndsIn x (keptIn before)
 
--- NO MORE THAN 60 SECONDS IN A ROW ARE FILLED: wherever no good sample comes between
+-- NO MORE THAN 60 SECONDS IN A ROW ARE FILLED: the S lines of a stretch that has no good sample are all marked M
 abbrev pub FilledAtMost60 : List ℕ → Header → Type 0
 FilledAtMost60 input h =
-    (before between after : List Item) → recording input ≡ before ++ (between ++ after) → keptIn between ≡ [] → filledIn between * secondsOf (gridOf h) ≤ 60
+    (before between after : List Item) → recording input ≡ before ++ (between ++ after) → keptIn between ≡ [] → length (samplesIn between) * secondsOf (gridOf h) ≤ 60
 
 -- ---- each line
 
@@ -108,15 +102,6 @@ pub data AccountedBy (row : Recorded) : Item → Type 0 where
 pub data OneForEach {X Y : Type 0} (P : X → Y → Type 0) : List X → List Y → Type 0 where
   no-more : OneForEach P [] []
   and-one : {x : X} {y : Y} {xs : List X} {ys : List Y} → P x y → OneForEach P xs ys → OneForEach P (x ∷ xs) (y ∷ ys)
-
--- without what is marked M
-unfoldable pub unfilled : List Item → List Item
-unfilled [] = []
-unfilled (stray second ∷ items) = stray second ∷ unfilled items
-unfilled (repeated second ∷ items) = repeated second ∷ unfilled items
-unfilled (filled second x ∷ items) = unfilled items
-unfilled (kept x ∷ items) = kept x ∷ unfilled items
-unfilled (refused n refusal ∷ items) = refused n refusal ∷ unfilled items
 
 -- EACH LINE IS ACCOUNTED FOR: each G line before the end by exactly one of stray, repeated, kept; the line that is refused, by R; nothing else is printed but what is marked M
 pub record EachLineAccounted (input : List ℕ) (rows : List Recorded) : Type 0 where
