@@ -7,3 +7,4 @@ pub mod Promises
 pub mod SameLine
 pub mod SamplesBack
 pub mod Settles
+pub mod Sixty
