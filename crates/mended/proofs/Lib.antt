@@ -1,0 +1,10 @@
+pub mod Endings
+pub mod Standing
+pub mod Stretch
+pub mod Filled
+pub mod Accounted
+pub mod Promises
+pub mod SameLine
+pub mod SamplesBack
+pub mod Settles
+pub mod Sixty
