@@ -1,7 +1,7 @@
 -- A block for a desk that prints for most of its lines: a line at a time; and it goes on where it stopped, with what it printed before what follows.
 -- Assumes nothing.
-use Prim.Native.Nat.{ℕ, _+_, _-_}
-use mathlib.Core.Path.{_≡_, refl, sym, ap, _∙_}
+use Prim.Native.Nat.{ℕ, _+_, _-_, _≤_, _<_}
+use mathlib.Core.Path.{_≡_, refl, sym, ap, subst, _∙_}
 use mathlib.Core.Bool.{Bool, true, false, cond}
 use mathlib.Core.Logic.{⊎-elim}
 use mathlib.Core.List.{List, [], _∷_, _++_, append-assoc}
@@ -107,5 +107,30 @@ module _ {D : Type 0} (turn : D → ℕ → List ℕ → Turn D) (closed : D →
             (after-other (handleBy turn) byte (bytes ++ rest) (at g d so) other
             ∙ goes-on-within bytes rest room (longerBy g byte) d so
             ∙ one-byte turn closed so byte bytes rest (fed room (longerBy g byte) d bytes))
+      ])
+      (told (rests turn closed most d room))
+
+  -- how many bytes a feeding uses: some where it reads and there are any, and no more than there are
+  pub used-some : (block : List ℕ) (room : ℕ) (g : Gatherer) (d : D) → rests turn closed most d room ≡ false → 0 < length block → 0 < fed room g d block .used
+  used-some [] room g d o h = absurd (omega arith)
+  used-some (byte ∷ bytes) room g d o h =
+      elim (ℕ-discrete byte 10) [
+        | yes lf ↦ subst (λ (x : Outcome D). 0 < x .used) (sym (at-lf room g d o byte bytes lf)) (omega arith)
+        | no other ↦ subst (λ (x : Outcome D). 0 < x .used) (sym (at-other room g d o byte bytes other)) (omega arith)
+      ]
+
+  pub used-within : (block : List ℕ) (room : ℕ) (g : Gatherer) (d : D) → fed room g d block .used ≤ length block
+  unfolding feedWithin
+  used-within [] room g d = omega arith
+  used-within (byte ∷ bytes) room g d =
+      ⊎-elim
+      (λ e. subst (λ (x : Outcome D). x .used ≤ length (byte ∷ bytes)) (sym (rests-there room g d (byte ∷ bytes) e)) (omega arith))
+      (λ o. elim (ℕ-discrete byte 10) [
+        | yes lf ↦
+            let t : Turn D = lineAt turn d (completed g) in
+            subst (λ (x : Outcome D). x .used ≤ length (byte ∷ bytes)) (sym (at-lf room g d o byte bytes lf))
+            (omega (arith, used-within bytes (room - length (t .text)) (freshOf (completed g)) (t .desk)))
+        | no other ↦
+            subst (λ (x : Outcome D). x .used ≤ length (byte ∷ bytes)) (sym (at-other room g d o byte bytes other)) (omega (arith, used-within bytes room (longerBy g byte) d))
       ])
       (told (rests turn closed most d room))

@@ -8,3 +8,5 @@ pub mod SameLine
 pub mod SamplesBack
 pub mod Settles
 pub mod Sixty
+pub mod Means
+pub mod Fed

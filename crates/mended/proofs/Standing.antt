@@ -37,7 +37,7 @@ use Rattle.mended.proofs.Endings.{items-end}
 
 -- ---- one line more
 
-last-end : (rows : List Recorded) (row : Recorded) → lastOf (rows ++ (row ∷ [])) ≡ last row
+pub last-end : (rows : List Recorded) (row : Recorded) → lastOf (rows ++ (row ∷ [])) ≡ last row
 unfolding lastOf
 last-end [] row = refl
 last-end (x ∷ []) row = refl
@@ -48,18 +48,18 @@ unfolding goodFrom
 good-from-end t good [] row = refl
 good-from-end t good (x ∷ rows) row = good-from-end t (withGood t good x) rows row
 
-good-end : (t : Grid) (rows : List Recorded) (row : Recorded) → goodOf t (rows ++ (row ∷ [])) ≡ withGood t (goodOf t rows) row
+pub good-end : (t : Grid) (rows : List Recorded) (row : Recorded) → goodOf t (rows ++ (row ∷ [])) ≡ withGood t (goodOf t rows) row
 unfolding goodOf
 good-end t rows row = good-from-end t [] rows row
 
 -- ---- the place of a line that is not outside
 
-record OnGrid (t : Grid) (second : ℤ) : Type 0 where
-  forward : down second ≡ 0
-  inside : placeOf t second < t .places
-  exact : up second ≡ placeOf t second * secondsOf t
+pub record OnGrid (t : Grid) (second : ℤ) : Type 0 where
+  pub forward : down second ≡ 0
+  pub inside : placeOf t second < t .places
+  pub exact : up second ≡ placeOf t second * secondsOf t
 
-on-grid : (t : Grid) (second : ℤ) → outside t second ≡ false → OnGrid t second
+pub on-grid : (t : Grid) (second : ℤ) → outside t second ≡ false → OnGrid t second
 unfolding outside
 on-grid t second e =
     let a = neither (ltZ second (pos 0) || leb (t .places) (placeOf t second)) (not (eqb (up second % secondsOf t) 0)) e in
@@ -86,7 +86,7 @@ unfolding among
 among-end [] g = rw (same-self (g .second))
 among-end (row ∷ before) g = rw (among-end before g) (or-true (same (row .second) (g .second)))
 
-among-last : {good : List Recorded} {g : Recorded} → EndsIn g good → among (g .second) good ≡ true
+pub among-last : {good : List Recorded} {g : Recorded} → EndsIn g good → among (g .second) good ≡ true
 among-last {g = g} e = rw (e .is) (among-end (e .before) g)
 
 -- ---- WHAT LINES THAT ARE ACCEPTED COME TO: the lines, the good ones, what is printed for them, and the next place
@@ -109,28 +109,28 @@ pub data Mends (t : Grid) : List Recorded → List Recorded → List Item → �
       → Mends t (rows ++ (row ∷ [])) (good ++ (row ∷ [])) (items ++ (filledFrom t (g .sample) n k ++ (kept (row .sample) ∷ []))) (n + k + 1)
 
 -- the last good line, and the last line, which is for no earlier second
-data Lasts (t : Grid) : List Recorded → Last → Last → Type 0 where
+pub data Lasts (t : Grid) : List Recorded → Last → Last → Type 0 where
   no-good : {l : Last} → Lasts t [] none l
   a-good : {good : List Recorded} {g r : Recorded} → EndsIn g good → outside t (g .second) ≡ false → up (g .second) + down (r .second) ≤ up (r .second) + down (g .second)
       → Lasts t good (last g) (last r)
 
-record Stands (t : Grid) (rows : List Recorded) : Type 0 where
-  mends : Mends t rows (goodOf t rows) (itemsOf t rows) (nextPlace t (lastOf (goodOf t rows)))
-  lasts : Lasts t (goodOf t rows) (lastOf (goodOf t rows)) (lastOf rows)
+pub record Stands (t : Grid) (rows : List Recorded) : Type 0 where
+  pub mends : Mends t rows (goodOf t rows) (itemsOf t rows) (nextPlace t (lastOf (goodOf t rows)))
+  pub lasts : Lasts t (goodOf t rows) (lastOf (goodOf t rows)) (lastOf rows)
 
-stands-none : (t : Grid) → Stands t []
+pub stands-none : (t : Grid) → Stands t []
 unfolding goodOf goodFrom lastOf itemsFrom
 stands-none t = record { mends = no-line; lasts = no-good }
 
 -- ---- a line that is accepted
 
-record Passed (t : Grid) (rows : List Recorded) (row : Recorded) : Type 0 where
-  fair : FairSample (row .sample)
-  first-here : (isGood t (goodOf t rows) row && isNone (lastOf (goodOf t rows)) && not (eqb (up (row .second)) 0)) ≡ false
-  small-hole : (isGood t (goodOf t rows) row && longHole t rows (placeOf t (row .second))) ≡ false
-  not-earlier : isEarlier (row .second) (lastOf rows) ≡ false
+pub record Passed (t : Grid) (rows : List Recorded) (row : Recorded) : Type 0 where
+  pub fair : FairSample (row .sample)
+  pub first-here : (isGood t (goodOf t rows) row && isNone (lastOf (goodOf t rows)) && not (eqb (up (row .second)) 0)) ≡ false
+  pub small-hole : (isGood t (goodOf t rows) row && longHole t rows (placeOf t (row .second))) ≡ false
+  pub not-earlier : isEarlier (row .second) (lastOf rows) ≡ false
 
-passes : (t : Grid) (rows : List Recorded) (row : Recorded) → first (recordedGrounds t rows row) ≡ None → Passed t rows row
+pub passes : (t : Grid) (rows : List Recorded) (row : Recorded) → first (recordedGrounds t rows row) ≡ None → Passed t rows row
 unfolding recordedGrounds
 passes t rows row e =
     let a = passed _ BadPower _ (lit< tt) e in
@@ -281,12 +281,12 @@ module _ (t : Grid) (rows : List Recorded) (row : Recorded) (so : Stands t rows)
 
 -- ---- lines that are accepted one after the other
 
-abbrev StandsSo : SoFar → Type 0
+abbrev pub StandsSo : SoFar → Type 0
 StandsSo nothing = Unit
 StandsSo (these h rows) = (first (headerGrounds h) ≡ None) × Stands (gridOf h) rows
 StandsSo over = Unit
 
-stands-with : (so : SoFar) (entry : Entry) → accepted (ground so entry) ≡ true → StandsSo so → StandsSo (with so entry)
+pub stands-with : (so : SoFar) (entry : Entry) → accepted (ground so entry) ≡ true → StandsSo so → StandsSo (with so entry)
 unfolding grounds with
 stands-with nothing (E.Header h) a s = (accepted-none (first (headerGrounds h)) a, stands-none (gridOf h))
 stands-with nothing (E.Recorded row) a s = tt
