@@ -29,7 +29,7 @@ use Rattle.reading.specs.declared.Line.the-variants as L
 use Rattle.meaning.specs.Given.{Given, headed, withStart, intervalIn, lotIn, quartersIn, setpointIn, blockIn}
 use Rattle.meaning.specs.Meaning.{these, untouched, blockSize, lacks, boundsFrom, boundsGrounds, setpointGrounds, grounds, ground, after, headerText, endText, settled}
 use Rattle.meaning.specs.Endings.{quartersText, Accepts, none, FairSample, Each, of-none, of-more, AcceptedInput}
-use Rattle.meaning.proofs.Proper.{opened-quarters}
+use Rattle.settlement.proofs.HeaderLaws.{opened-quarters}
 use Rattle.join.specs.Join.{Whole, feesOf, penaltiesOf}
 use Rattle.join.specs.Says.{boundsOf, boundsLine, blockLines, HandedOn}
 use Rattle.join.proofs.Sheets.{seriesOf, block-told, whole-some, known}

@@ -17,7 +17,8 @@ use Rattle.lines.specs.Turns.{Turn}
 use Rattle.lines.specs.Feed.{Outcome, stay, forth, isNone, lineAt, feedOf}
 use Rattle.lines.proofs.FeedLaws.{at-lf, at-other, closed-stays}
 
-told : (b : Bool) → (b ≡ true) ⊎ (b ≡ false)
+-- a test is true or false
+pub told : (b : Bool) → (b ≡ true) ⊎ (b ≡ false)
 told true = inl refl
 told false = inr refl
 
@@ -34,14 +35,14 @@ module _ {D : Type 0} (turn : D → ℕ → List ℕ → Turn D) (closed : D →
   handle = handleBy turn
 
   -- what is to be shown of an outcome
-  abbrev Goes : Gatherer → D → List ℕ → List ℕ → List ℕ → Outcome D → Type 0
+  abbrev pub Goes : Gatherer → D → List ℕ → List ℕ → List ℕ → Outcome D → Type 0
   Goes g d so block rest o = afterBytes handle (at g d so) (block ++ rest) ≡ afterBytes handle (at (o .gatherer) (o .desk) (so ++ o .text)) (drop (o .used) block ++ rest)
 
-  stays : (g : Gatherer) (d : D) (so block rest : List ℕ) → Goes g d so block rest (stay g d)
+  pub stays : (g : Gatherer) (d : D) (so block rest : List ℕ) → Goes g d so block rest (stay g d)
   stays g d so block rest = ap (λ (l : List ℕ). afterBytes handle (at g d l) (block ++ rest)) (sym (append-nil so))
 
   -- a byte more was used
-  one-byte : (so : List ℕ) (byte : ℕ) (bytes rest : List ℕ) (o : Outcome D)
+  pub one-byte : (so : List ℕ) (byte : ℕ) (bytes rest : List ℕ) (o : Outcome D)
       → afterBytes handle (at (o .gatherer) (o .desk) (so ++ o .text)) (drop (o .used) bytes ++ rest)
       ≡ afterBytes handle (at (o .gatherer) (o .desk) (so ++ o .text)) (drop (1 + o .used) (byte ∷ bytes) ++ rest)
   one-byte so byte bytes rest o = ap (λ (n : ℕ). afterBytes handle (at (o .gatherer) (o .desk) (so ++ o .text)) (drop n (byte ∷ bytes) ++ rest)) (sym (one-add (o .used)))
@@ -56,7 +57,7 @@ module _ {D : Type 0} (turn : D → ℕ → List ℕ → Turn D) (closed : D →
       ∙ one-byte so byte bytes rest next
   on-line g d so bytes rest byte t next (x ∷ xs) e p q = p
 
-  as-outcome : (g : Gatherer) (d : D) (so block rest : List ℕ) {o o′ : Outcome D} → o ≡ o′ → Goes g d so block rest o′ → Goes g d so block rest o
+  pub as-outcome : (g : Gatherer) (d : D) (so block rest : List ℕ) {o o′ : Outcome D} → o ≡ o′ → Goes g d so block rest o′ → Goes g d so block rest o
   as-outcome g d so block rest e q = subst (λ (o : Outcome D). Goes g d so block rest o) (sym e) q
 
   -- WHAT FOLLOWS THE BLOCK CHANGES NOTHING, AND IS READ FROM WHERE THE FEEDING STOPPED

@@ -2,19 +2,18 @@
 use Prim.Native.Nat.{ℕ}
 use mathlib.Core.Path.{_≡_, sym, _∙_}
 use mathlib.Core.List.{List}
+use mathlib.Core.Bool.{cond}
 use borrow.Author.Tests.{eq-eqb, ne-eqb}
+use lib.Dec.{eqb}
 use lib.ListN.{length}
 use Rattle.fields.specs.Fields.{fields}
 use Rattle.fields.specs.Split.{splitOf}
 use Rattle.fields.specs.declared.split.Split.{Split}
 use Rattle.fields.proofs.SplitLaws.{split-count}
-use Rattle.reading.specs.Line.{ofFields}
-use Rattle.reading.specs.declared.Line.{Line}
-use Rattle.reading.specs.declared.Line.the-variants.{Malformed}
 
-module _ (line : List ℕ) {split : Split} (same : split ≡ splitOf line) {n : ℕ} (said : Line) where
-  pub other-count : (split .count ≡ n → ⊥) → Malformed ≡ ofFields n (fields line) said
+module _ (line : List ℕ) {split : Split} (same : split ≡ splitOf line) {n : ℕ} {A : Type 0} (said malformed : A) where
+  pub other-count : (split .count ≡ n → ⊥) → malformed ≡ cond (eqb (length (fields line)) n) said malformed
   other-count other = rw (ne-eqb (length (fields line)) n (λ e. other (split-count line same ∙ e)))
 
-  pub its-count : split .count ≡ n → ofFields n (fields line) said ≡ said
+  pub its-count : split .count ≡ n → cond (eqb (length (fields line)) n) said malformed ≡ said
   its-count e = rw (eq-eqb (length (fields line)) n (sym (split-count line same) ∙ e))

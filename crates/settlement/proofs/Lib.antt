@@ -1,3 +1,4 @@
 -- What the parts of a run add up to.
 pub mod Money
 pub mod Many
+pub mod HeaderLaws

@@ -23,7 +23,8 @@ fn seconds_known(seconds: u32) -> bool
     seconds == 4
 }
 
-pub(crate) fn open_refusal(header: Header) -> Refusal
+// A header: what a run is opened for, and what a recording is mended for.
+pub fn open_refusal(header: Header) -> Refusal
     ensures { λ r. ⌜ r ≡ openRefusal header ⌝ }
 {
     if !seconds_known(above_zero(header.interval)) {

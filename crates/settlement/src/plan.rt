@@ -16,7 +16,7 @@ pub struct Plan {
 }
 
 // The interval of so many seconds.
-pub(crate) fn interval_of(seconds: u32) -> Interval
+pub fn interval_of(seconds: u32) -> Interval
     ensures { λ r. ⌜ r ≡ intervalOf seconds ⌝ }
 {
     if seconds == 1 {

@@ -53,6 +53,10 @@ pub record Ground : Type 0 where
 abbrev pub on : Refusal → Bool → Ground
 on refusal holds = record { refusal = refusal; holds = holds }
 
+-- where nothing but one refusal is looked at
+abbrev pub only : Refusal → List Ground
+only refusal = on refusal true ∷ []
+
 -- the first ground that holds; None where none does
 abbrev pub first : List Ground → Refusal
 first [] = None

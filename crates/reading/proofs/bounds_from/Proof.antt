@@ -8,7 +8,7 @@ use Rattle.reading.proofs.bounds_from.Tie as tie
 
 returns : tie.Need-returns
 unfolding boundsOf
-returns c = other-count _ (c .before .before .before .pre) _ (c .if1 .taken)
+returns c = other-count _ (c .before .before .before .pre) _ _ (c .if1 .taken)
 
 field-requires : tie.Need-field-requires
 field-requires c κs = search needs
@@ -33,7 +33,7 @@ returns-2 c =
     let at-count = at-oga .before in
     let same = at-count .before .before .before .pre in
     rw (
-      its-count _ same _ (at-count .if1 .left),
+      its-count _ same _ _ (at-count .if1 .left),
       ← at-oga .field .ensures .1 same (omega arith),
       ← at-uga .before .long-number-of .ensures,
       ← at-uga .field2 .ensures .1 same (omega arith),

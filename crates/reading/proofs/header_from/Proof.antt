@@ -8,7 +8,7 @@ use Rattle.reading.proofs.header_from.Tie as tie
 
 returns : tie.Need-returns
 unfolding headerOf
-returns c = other-count _ (c .before .before .before .pre) _ (c .if1 .taken)
+returns c = other-count _ (c .before .before .before .pre) _ _ (c .if1 .taken)
 
 field-requires : tie.Need-field-requires
 field-requires c κs = search needs
@@ -40,7 +40,7 @@ returns-2 c =
     let at-count = at-date .before in
     let same = at-count .before .before .before .pre in
     rw (
-      its-count _ same _ (at-count .if1 .left),
+      its-count _ same _ _ (at-count .if1 .left),
       ← at-date .field .ensures .1 same (omega arith),
       ← at-interval .before .date-of .ensures,
       ← at-interval .number-at .ensures,

@@ -7,7 +7,7 @@ use Rattle.reading.proofs.sample_from.Tie as tie
 
 returns : tie.Need-returns
 unfolding sampleOf
-returns c = other-count _ (c .before .before .before .pre) _ (c .if1 .taken)
+returns c = other-count _ (c .before .before .before .pre) _ _ (c .if1 .taken)
 
 number-at-requires : tie.Need-number-at-requires
 number-at-requires c κs = search needs
@@ -24,7 +24,7 @@ returns-2 c =
     let at-number = c .before .before in
     let at-count = at-number .before in
     let same = at-count .before .before .before .pre in
-    rw (its-count _ same _ (at-count .if1 .left), ← at-number .number-at .ensures, ← c .before .number-at2 .ensures) (c .sample-of .ensures)
+    rw (its-count _ same _ _ (at-count .if1 .left), ← at-number .number-at .ensures, ← c .before .number-at2 .ensures) (c .sample-of .ensures)
 
 pub sample-from-spec : {M : Type 1} → statement M
 sample-from-spec =

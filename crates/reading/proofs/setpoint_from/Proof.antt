@@ -7,7 +7,7 @@ use Rattle.reading.proofs.setpoint_from.Tie as tie
 
 returns : tie.Need-returns
 unfolding setpointOf
-returns c = other-count _ (c .before .before .before .pre) _ (c .if1 .taken)
+returns c = other-count _ (c .before .before .before .pre) _ _ (c .if1 .taken)
 
 number-at-requires : tie.Need-number-at-requires
 number-at-requires c κs = search needs
@@ -19,7 +19,7 @@ returns-2 : tie.Need-returns-2
 unfolding setpointOf
 returns-2 c =
     let at-count = c .before .before in
-    rw (its-count _ (at-count .before .before .before .pre) _ (at-count .if1 .left), ← c .before .number-at .ensures) (c .setpoint-of .ensures)
+    rw (its-count _ (at-count .before .before .before .pre) _ _ (at-count .if1 .left), ← c .before .number-at .ensures) (c .setpoint-of .ensures)
 
 pub setpoint-from-spec : {M : Type 1} → statement M
 setpoint-from-spec = tie.close (tie.spec returns number-at-requires setpoint-of-requires returns-2)

@@ -1,0 +1,12 @@
+pub mod Endings
+pub mod Standing
+pub mod Stretch
+pub mod Filled
+pub mod Accounted
+pub mod Promises
+pub mod SameLine
+pub mod SamplesBack
+pub mod Settles
+pub mod Sixty
+pub mod Means
+pub mod Fed

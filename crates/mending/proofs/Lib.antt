@@ -1,0 +1,6 @@
+pub mod GridLaws
+pub mod MissingLaws
+pub mod MenderLaws
+pub mod TurnLaws
+pub mod ReaderLaws
+pub mod UsedLaws

@@ -1,0 +1,243 @@
+-- The reader's steps, as parts of one call.
+-- Assumes nothing.
+use Prim.Native.Nat.{ℕ, _+_, _-_, _≤_, _<_}
+use mathlib.Core.Path.{_≡_, refl, sym, ap, subst, _∙_}
+use mathlib.Core.Bool.{Bool, true, false, cond}
+use mathlib.Core.List.{List, [], _++_, append-assoc, append-nil}
+use native.Mathlib.Omega.{arith}
+use native.Mathlib.Nat.{add-zero}
+use borrow.Author.Tests.{le-ltb, lt-ltb}
+use lib.ListN.{length, take, drop, length-drop, length-append, drop-of-length-le}
+use lib.Seq.{drop-drop}
+use Rattle.fields.proofs.DigitLaws.{to-end}
+use Rattle.lines.specs.Feed.{Outcome, stay, lineAt}
+use Rattle.lines.specs.Within.{andThen, rests}
+use Rattle.lines.specs.Gathering.{freshOf, gatheredOf}
+use Rattle.lines.specs.Handing.{heldBy}
+use Rattle.lines.specs.declared.Gatherer.{Gatherer}
+use Rattle.lines.specs.declared.Gathered.{Gathered}
+use Rattle.lines.proofs.Calls.{used-all, used-some, used-within}
+use Rattle.lines.proofs.WithinLaws.{by-line, lineThen, onGathered, rests-there, none-left}
+use Rattle.print.specs.Print.{Wrote, last}
+use Rattle.print.proofs.Writing.{wrote-nothing, join, at-start, measured, wrote-length}
+use Rattle.sheets.specs.declared.Printed.{Printed}
+use Rattle.sheets.specs.declared.Printed.the-variants.{Length, TooShort}
+use Rattle.mending.specs.Mender.{Turn, Turns, lineRoom, lineTurn, finishTurn}
+use Rattle.mending.specs.Reader.{closedOf, feedOf, finishOf, readerOf, over, lengthOf, Yields, Moves, Reads}
+use Rattle.mending.specs.declared.mender.Mender.{Mender}
+use Rattle.mending.specs.declared.mender.Told.{Told}
+use Rattle.mending.specs.declared.reader.Reader.{Reader}
+use Rattle.mending.specs.declared.reader.Moved.{Moved}
+use Rattle.mending.specs.declared.reader.Fed.{Fed}
+
+-- a line by the bytes that are kept of it
+pub same-line : (m : Mender) (g : Gatherer) {n k : ℕ} {bytes : List ℕ} → bytes ≡ g .bytes → n ≡ g .count → k ≡ g .length → lineTurn m n (take k bytes) ≡ lineTurn m (g .count) (heldBy g)
+same-line m g {n} {k} {bytes} p q r =
+    ap (λ (x : ℕ). lineTurn m x (take k bytes)) q ∙ ap (λ (x : ℕ). lineTurn m (g .count) (take x bytes)) r ∙ ap (λ (b : List ℕ). lineTurn m (g .count) (take (g .length) b)) p
+
+pub as-turn : {out out′ : List ℕ} {at : ℕ} {a b : Turn} {r : Told} → a ≡ b → Turns out at a r out′ → Turns out at b r out′
+as-turn {out} {out′} {at} {r = r} e t = subst (λ (x : Turn). Turns out at x r out′) e t
+
+-- ---- A LINE, OR THE REST OF THE BLOCK
+
+module _ (reader : Reader) (block : List ℕ) (at : ℕ) (out : List ℕ) (from : ℕ) (part : Gathered) (h : at < length block)
+    (gathered : part ≡ gatheredOf (reader .gatherer) (take (length block - at) (drop at block))) where
+  is-gathered : part ≡ gatheredOf (reader .gatherer) (drop at block)
+  is-gathered = gathered ∙ ap (gatheredOf (reader .gatherer)) (to-end block at)
+
+  left : length (drop at block) ≡ length block - at
+  left = length-drop at block
+
+  used-is : part .used ≡ gatheredOf (reader .gatherer) (drop at block) .used
+  used-is = ap (λ (r : Gathered). r .used) is-gathered
+
+  some-used : 0 < part .used
+  some-used = omega (arith, left, used-is, used-some (drop at block) (reader .gatherer) (omega (arith, left)))
+
+  used-in : at + part .used ≤ length block
+  used-in = omega (arith, left, used-is, used-within (drop at block) (reader .gatherer))
+
+  -- a complete line, or none
+  abbrev by-end : ℕ → Bool → Outcome Mender
+  by-end room complete =
+      cond complete (lineThen lineTurn closedOf lineRoom room (reader .mender) (part .gatherer) (part .used) (drop (part .used) (drop at block)))
+      (record { gatherer = part .gatherer; desk = reader .mender; used = part .used; text = [] })
+
+  fed : (room : ℕ) → rests lineTurn closedOf lineRoom (reader .mender) room ≡ false → feedOf room reader (drop at block) ≡ by-end room (part .complete)
+  fed room o =
+      by-line lineTurn closedOf lineRoom (drop at block) room (reader .gatherer) (reader .mender) o
+      ∙ ap (onGathered lineTurn closedOf lineRoom room (reader .mender) (drop at block)) (sym is-gathered)
+
+  -- no line was complete
+  abbrev after-rest : Reader
+  after-rest = record { gatherer = part .gatherer; mender = reader .mender }
+
+  pub rest-of-block : {out′ : List ℕ} → out′ ≡ out → from ≤ last → length out ≤ last → part .complete ≡ false
+      → Moves reader block at out from (record { reader = after-rest; used = part .used; next = from }) out′
+  rest-of-block {out′} same low few e =
+      let u : part .used ≡ length (drop at block) = used-is ∙ used-all (drop at block) (reader .gatherer) (sym (ap (λ (r : Gathered). r .complete) is-gathered) ∙ e) in
+      let w : length block ≤ at + part .used = omega (arith, left) in
+      let z : drop (at + part .used) block ≡ [] = drop-of-length-le block w in
+      record {
+        text = [];
+        short = omega arith;
+        wrote = subst (λ (l : List ℕ). Wrote out from [] from l) (sym same) (wrote-nothing low few);
+        within = used-in;
+        some = some-used;
+        is = λ room o.
+            fed room o
+            ∙ ap (by-end room) e
+            ∙ sym
+            (ap (andThen [] (part .used)) (none-left lineTurn closedOf lineRoom (room - 0) (part .gatherer) (reader .mender) (drop (at + part .used) block) z)
+            ∙ ap (λ (n : ℕ). record { gatherer = part .gatherer; desk = reader .mender; used = n; text = [] }) (add-zero (part .used)));
+      }
+
+  -- the line at hand was complete
+  abbrev turn : Turn
+  turn = lineTurn (reader .mender) (part .gatherer .count) (heldBy (part .gatherer))
+
+  pub line-of-block : {told : Told} {out′ : List ℕ} {g : Gatherer} → part .complete ≡ true → g ≡ freshOf (part .gatherer) → Turns out from turn told out′
+      → Moves reader block at out from (record { reader = record { gatherer = g; mender = told .mender }; used = part .used; next = told .next }) out′
+  line-of-block {told} {out′} {g} e f t =
+      record {
+        text = turn .text;
+        short = t .text .short;
+        wrote = t .text .wrote;
+        within = used-in;
+        some = some-used;
+        is = λ room o.
+            fed room o
+            ∙ ap (by-end room) e
+            ∙ ap (λ (l : List ℕ). lineThen lineTurn closedOf lineRoom room (reader .mender) (part .gatherer) (part .used) l) (drop-drop (part .used) at block)
+            ∙ ap (λ (y : Gatherer). andThen (turn .text) (part .used) (feedOf (room - length (turn .text)) (record { gatherer = y; mender = turn .desk }) (drop (at + part .used) block))) (sym f)
+            ∙ ap (λ (d : Mender). andThen (turn .text) (part .used) (feedOf (room - length (turn .text)) (record { gatherer = g; mender = d }) (drop (at + part .used) block))) (sym (t .mender));
+      }
+
+-- ---- ALL STEPS: what was read so far came to a reader at place i, and its text stands in the buffer up to place `next`
+
+pub record So (start : Reader) (block out₀ : List ℕ) (reader : Reader) (i next : ℕ) (out : List ℕ) : Type 0 where
+  pub text : List ℕ
+  pub fits : length text ≤ length out₀
+  pub next-is : next ≡ length text
+  pub wrote : Wrote out₀ 0 text next out
+  pub is : feedOf (length out₀) start block ≡ andThen text i (feedOf (length out₀ - length text) reader (drop i block))
+
+pub so-first : (start : Reader) (block : List ℕ) {out : List ℕ} → length out ≤ last → So start block out start 0 0 out
+so-first start block {out} few =
+    record {
+      text = [];
+      fits = omega arith;
+      next-is = refl;
+      wrote = wrote-nothing (omega arith) few;
+      is =
+          (let o = feedOf (length out) start block in λ i. record { gatherer = o .gatherer; desk = o .desk; used = none o i; text = o .text })
+          ∙ (let e : length out ≡ length out - 0 = omega arith in ap (λ (n : ℕ). andThen [] 0 (feedOf n start block)) e);
+    }
+  where
+    none : (o : Outcome Mender) → o .used ≡ 0 + o .used
+    none o = omega arith
+
+-- a turn after a turn
+then-then : (a b : List ℕ) (m n : ℕ) (o : Outcome Mender) → andThen a m (andThen b n o) ≡ andThen (a ++ b) (m + n) o
+then-then a b m n o = λ i. record { gatherer = o .gatherer; desk = o .desk; used = sums i; text = sym (append-assoc a b (o .text)) i }
+  where
+    sums : m + (n + o .used) ≡ m + n + o .used
+    sums = omega arith
+
+module _ {start : Reader} {block out₀ : List ℕ} {reader : Reader} {i next : ℕ} {out : List ℕ} (so : So start block out₀ reader i next out) where
+  same-length : length out ≡ length out₀
+  same-length = wrote-length (so .wrote)
+
+  -- one step more
+  pub so-more : {r : Moved} {out′ : List ℕ} → closedOf (reader .mender) ≡ false → lineRoom ≤ length out - next → Moves reader block i out next r out′
+      → So start block out₀ (r .reader) (i + r .used) (r .next) out′
+  so-more {r} {out′} o room m =
+      let here : next ≡ length (so .text) = so .next-is in
+      let long : length (so .text ++ m .text) ≡ length (so .text) + length (m .text) = length-append (so .text) (m .text) in
+      let enough : lineRoom ≤ length out₀ - length (so .text) = omega (arith, same-length, here, room) in
+      let reads : rests lineTurn closedOf lineRoom (reader .mender) (length out₀ - length (so .text)) ≡ false = rw (o, le-ltb _ _ enough) in
+      let short : length (m .text) ≤ lineRoom = m .short in
+      let far : length out₀ ≤ last = so .wrote .reach in
+      let place : r .next ≡ next + length (m .text) = omega (arith, m .wrote .next, far, enough, short, here) in
+      record {
+        text = so .text ++ m .text;
+        fits = omega (arith, long, enough, short, so .fits);
+        next-is = omega (arith, place, here, long);
+        wrote = join (so .wrote) (m .wrote);
+        is =
+            so .is
+            ∙ ap (andThen (so .text) i) (m .is (length out₀ - length (so .text)) reads)
+            ∙ then-then (so .text) (m .text) i (r .used) _
+            ∙ (let e : length out₀ - length (so .text) - length (m .text) ≡ length out₀ - length (so .text ++ m .text) = omega (arith, long) in
+            ap (λ (n : ℕ). andThen (so .text ++ m .text) (i + r .used) (feedOf n (r .reader) (drop (i + r .used) block))) e);
+      }
+
+  -- no step more
+  pub so-ends : feedOf (length out₀ - length (so .text)) reader (drop i block) ≡ stay (reader .gatherer) (reader .mender)
+      → Reads start block out₀ (record { reader = reader; used = i; next = next }) out
+  so-ends e =
+      let q : feedOf (length out₀) start block ≡ record { gatherer = reader .gatherer; desk = reader .mender; used = i; text = so .text } =
+      so .is
+      ∙ ap (andThen (so .text) i) e
+      ∙ ap (λ (n : ℕ). record { gatherer = reader .gatherer; desk = reader .mender; used = n; text = so .text ++ [] }) (add-zero i)
+      ∙ ap (λ (l : List ℕ). record { gatherer = reader .gatherer; desk = reader .mender; used = i; text = l }) (append-nil (so .text)) in
+      let t : feedOf (length out₀) start block .text ≡ so .text = ap (λ (o : Outcome Mender). o .text) q in
+      record {
+        reader-is = sym (ap readerOf q);
+        used = sym (ap (λ (o : Outcome Mender). o .used) q);
+        next = so .next-is ∙ ap length (sym t);
+        bytes = at-start (so .wrote) (so .fits) ∙ ap (λ (l : List ℕ). over l out₀) (sym t);
+        room = omega (arith, so .next-is, so .fits);
+      }
+
+  pub so-closed : closedOf (reader .mender) ≡ true → Reads start block out₀ (record { reader = reader; used = i; next = next }) out
+  so-closed c = so-ends (rests-there lineTurn closedOf lineRoom _ (reader .gatherer) (reader .mender) (drop i block) (rw c))
+
+  pub so-full : closedOf (reader .mender) ≡ false → length out - next < lineRoom → Reads start block out₀ (record { reader = reader; used = i; next = next }) out
+  so-full c few =
+      let low : length out₀ - length (so .text) < lineRoom = omega (arith, few, same-length, so .next-is) in
+      so-ends (rests-there lineTurn closedOf lineRoom _ (reader .gatherer) (reader .mender) (drop i block) (rw (c, lt-ltb _ _ low)))
+
+  pub so-done : length block ≤ i → Reads start block out₀ (record { reader = reader; used = i; next = next }) out
+  so-done h = so-ends (none-left lineTurn closedOf lineRoom _ (reader .gatherer) (reader .mender) (drop i block) (drop-of-length-le block h))
+
+-- ---- WHAT A CALL ANSWERS
+
+module _ (out : List ℕ) (reader : Reader) (o : Outcome Mender) where
+  pub too-short : length out < lineRoom → Yields out reader o (record { reader = reader; used = 0; printed = TooShort }) out
+  too-short h =
+      let c = lt-ltb (length out) lineRoom h in
+      record {
+        answer = sym (ap (λ (b : Bool). cond b (record { reader = reader; used = 0; printed = TooShort }) (record { reader = readerOf o; used = o .used; printed = Length (length (o .text)) })) c);
+        bytes = sym (ap (λ (b : Bool). cond b out (over (o .text) out)) c);
+        room = omega arith;
+      }
+
+  pub long-enough : {r : Fed} {out′ : List ℕ} → lineRoom ≤ length out → r .reader ≡ readerOf o → r .used ≡ o .used → r .printed ≡ Length (length (o .text))
+      → out′ ≡ over (o .text) out → length (o .text) ≤ length out → Yields out reader o r out′
+  long-enough {r} {out′} h p u n b few =
+      let c = le-ltb (length out) lineRoom h in
+      record {
+        answer =
+            (λ i. record { reader = p i; used = u i; printed = n i })
+            ∙ sym (ap (λ (b : Bool). cond b (record { reader = reader; used = 0; printed = TooShort }) (record { reader = readerOf o; used = o .used; printed = Length (length (o .text)) })) c);
+        bytes = b ∙ sym (ap (λ (b : Bool). cond b out (over (o .text) out)) c);
+        room = subst (λ (x : Printed). lengthOf x ≤ length out) (sym n) few;
+      }
+
+pub fed-whole : {out out′ : List ℕ} {reader : Reader} {block : List ℕ} {r : Moved} → lineRoom ≤ length out → Reads reader block out r out′
+    → Yields out reader (feedOf (length out) reader block) (record { reader = r .reader; used = r .used; printed = Length (r .next) }) out′
+fed-whole {out} {out′} {reader} {block} {r} h t =
+    let few : length (feedOf (length out) reader block .text) ≤ length out = omega (arith, t .room, t .next) in
+    long-enough out reader (feedOf (length out) reader block) h (t .reader-is) (t .used) (ap Length (t .next)) (t .bytes) few
+
+pub finished : {out out′ : List ℕ} {reader : Reader} {n : ℕ} {told : Told} → lineRoom ≤ length out → n ≡ reader .gatherer .count → Turns out 0 (finishTurn (reader .mender) n) told out′
+    → Yields out reader (finishOf reader) (record { reader = record { gatherer = reader .gatherer; mender = told .mender }; used = 0; printed = Length (told .next) }) out′
+finished {out} {out′} {reader} {n} {told} h e t =
+    let same : finishTurn (reader .mender) n ≡ finishTurn (reader .mender) (reader .gatherer .count) = ap (finishTurn (reader .mender)) e in
+    let u : Turns out 0 (finishTurn (reader .mender) (reader .gatherer .count)) told out′ = as-turn same t in
+    let text : List ℕ = finishTurn (reader .mender) (reader .gatherer .count) .text in
+    let few : length text ≤ length out = omega (arith, u .text .short) in
+    let far : length out ≤ last = u .text .wrote .reach in
+    long-enough out reader (finishOf reader) h (λ i. record { gatherer = reader .gatherer; mender = u .mender i }) refl
+    (ap Length (measured (u .text .wrote) (omega arith))) (at-start (u .text .wrote) few) few

@@ -1,0 +1,52 @@
+-- `mending::mender::Mender::end` meets its contract. Assumes nothing.
+use Rattle.mending.proofs.TurnLaws.{as-turn, printed, none-refused, refuses, goes-on}
+use Rattle.mending.proofs.MenderLaws.{end-short}
+use Rattle.mending.specs.Mender.{endTurn}
+use native.Mathlib.Omega.{arith}
+use borrow.Author.Needs.{needs}
+use Rattle.mending.proofs.mender.Mender.end.Statement.{statement}
+use Rattle.mending.proofs.mender.Mender.end.Tie as tie
+
+end-refusal-requires : tie.Need-end-refusal-requires
+end-refusal-requires c κs = search needs
+
+number-requires : tie.Need-number-requires
+number-requires c κs = search needs
+
+refused-requires : tie.Need-refused-requires
+refused-requires c κs = search needs
+
+same-length : tie.Need-same-length
+same-length c = search needs
+
+returns : tie.Need-returns
+unfolding endTurn
+returns c = as-turn (refuses (c .before .before .before .before .before .number .ensures) (c .before .before .before .before .before .before .end-refusal .ensures) (c .before .before .before .before .before .before .before .before .args .self) (c .before .before .before .before .before .before .before .before .args .number) _ (c .before .before .before .before .if1 .taken)) (c .before .before .refused .ensures)
+
+put-rest-requires : tie.Need-put-rest-requires
+put-rest-requires c κs = end-short (c .before .before .before .before .before .before .args .self) (none-refused (c .before .before .before .number .ensures) (c .before .before .before .before .end-refusal .ensures) (c .before .before .if1 .left))
+
+closed-requires : tie.Need-closed-requires
+closed-requires c κs = search needs
+
+same-length-2 : tie.Need-same-length-2
+same-length-2 c = search needs
+
+returns-2 : tie.Need-returns-2
+unfolding endTurn
+returns-2 c =
+    as-turn (goes-on (c .before .before .before .before .before .before .before .number .ensures) (c .before .before .before .before .before .before .before .before .end-refusal .ensures) (c .before .before .before .before .before .before .before .before .before .before .args .self) (c .before .before .before .before .before .before .before .before .before .before .args .number) _ (c .before .before .before .before .before .before .if1 .left)) (printed _ (omega arith) (c .closed .ensures) (c .before .before .before .put-rest .ensures))
+
+pub end-spec : {M : Type 1} → statement M
+end-spec =
+    tie.close
+    (tie.spec
+    end-refusal-requires
+    number-requires
+    refused-requires
+    same-length
+    returns
+    put-rest-requires
+    closed-requires
+    same-length-2
+    returns-2)

@@ -1,0 +1,22 @@
+-- `mending::mender::Mender::put_good` meets its contract. Assumes nothing.
+use Rattle.mending.proofs.MenderLaws.{good-text}
+use Rattle.mending.specs.Mender.{restItems}
+use Rattle.sheets.proofs.Fields.{both}
+use borrow.Author.Needs.{needs}
+use Rattle.mending.proofs.mender.Mender.put_good.Statement.{statement}
+use Rattle.mending.proofs.mender.Mender.put_good.Tie as tie
+
+put-rest-requires : tie.Need-put-rest-requires
+put-rest-requires c κs = search needs
+
+put-sample-requires : tie.Need-put-sample-requires
+put-sample-requires c κs = search needs
+
+same-length : tie.Need-same-length
+same-length c = search needs
+
+returns : tie.Need-returns
+returns c = rw (good-text (restItems (c .before .before .before .before .before .before .before .before .before .before .args .self) (c .before .before .before .before .before .before .before .before .before .before .args .place)) (c .before .before .before .before .before .before .before .before .before .before .args .row .sample)) (both (c .before .before .before .before .before .before .before .put-rest .ensures) (c .before .before .put-sample .ensures))
+
+pub put-good-spec : {M : Type 1} → statement M
+put-good-spec = tie.close (tie.spec put-rest-requires put-sample-requires same-length returns)

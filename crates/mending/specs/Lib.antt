@@ -1,0 +1,4 @@
+pub mod Mending
+pub mod Mender
+pub mod Reader
+pub mod Feeding
