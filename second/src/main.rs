@@ -1,12 +1,14 @@
 //! Settles the secondary control energy of one pool: reads a text on standard
-//! input and prints the settlement sheet. With the argument `calls` it reads a
-//! script of library calls instead and prints what they answer; with `channel`
+//! input and prints the settlement sheet. With the argument `mend` it reads a
+//! recording with holes instead and prints its mended samples; with `calls` it
+//! reads a script of library calls and prints what they answer; with `channel`
 //! it prints the figures the channel is checked by.
 
 mod amounts;
 mod calls;
 mod channel;
 mod date;
+mod mend;
 mod run;
 mod settle;
 mod sheet;
@@ -23,10 +25,14 @@ fn main() -> ExitCode {
     let arguments: Vec<_> = env::args_os().skip(1).collect();
     let printed = match arguments.as_slice() {
         [] => read_input().map(|input| settled(&input)),
+        [mode] if mode == "mend" => read_input().map(|recording| mend::mended(&recording)),
         [mode] if mode == "calls" => read_input().and_then(|script| calls::answers(&script)),
         [mode] if mode == "channel" => Ok(channel_figures()),
         _ => {
-            complain("usage: second < input, second calls < script, or second channel");
+            complain(
+                "usage: second < input, second mend < recording, second calls < script, \
+                 or second channel",
+            );
             return ExitCode::from(2);
         }
     };

@@ -24,6 +24,22 @@ pub enum Line<'a> {
     End,
 }
 
+/// A line of the archive: a sample, and the second that it is of, counted from
+/// the start of the stretch; nothing in it has been checked.
+#[derive(Clone, Copy, Debug, PartialEq, Eq)]
+pub struct Recorded {
+    pub second: i32,
+    pub sample: Sample,
+}
+
+/// A well-formed line of a recording that is to be mended.
+#[derive(Clone, Copy, Debug, PartialEq, Eq)]
+pub enum RecordingLine {
+    Header(Header),
+    Recorded(Recorded),
+    End,
+}
+
 /// The complete lines of a text, without their LF. What follows the last LF is
 /// never looked at, whatever it is: the text ended there.
 pub fn complete_lines(text: &[u8]) -> impl Iterator<Item = &[u8]> {
@@ -36,13 +52,19 @@ pub fn complete_lines(text: &[u8]) -> impl Iterator<Item = &[u8]> {
     })
 }
 
-/// Reads a line, or gives nothing if it is ill-formed.
-pub fn read_line(line: &[u8]) -> Option<Line<'_>> {
+/// The first field of a line and those after it, if the line is not too long.
+fn fields_of(line: &[u8]) -> Option<(&[u8], impl Iterator<Item = &[u8]>)> {
     if line.len() > LONGEST_LINE {
         return None;
     }
     let mut fields = line.split(|&byte| byte == b'\t');
-    match fields.next()? {
+    Some((fields.next()?, fields))
+}
+
+/// Reads a line, or gives nothing if it is ill-formed.
+pub fn read_line(line: &[u8]) -> Option<Line<'_>> {
+    let (first, fields) = fields_of(line)?;
+    match first {
         b"D" => read_header(fields).map(Line::Header),
         b"O" => read_bounds(fields).map(Line::PastBounds),
         b"B" => {
@@ -52,14 +74,36 @@ pub fn read_line(line: &[u8]) -> Option<Line<'_>> {
         b"C" => read_contract(fields).map(Line::Contract),
         b"S" => {
             let [setpoint, actual] = exactly(fields)?;
-            Some(Line::Sample(Sample {
-                setpoint: read_number(setpoint)?,
-                actual: read_number(actual)?,
-            }))
+            read_sample(setpoint, actual).map(Line::Sample)
         }
         b"E" => exactly(fields).map(|[]| Line::End),
         _ => None,
     }
+}
+
+/// Reads a line of a recording, which has fewer kinds of them, or gives nothing
+/// if it is ill-formed.
+pub fn read_recording_line(line: &[u8]) -> Option<RecordingLine> {
+    let (first, fields) = fields_of(line)?;
+    match first {
+        b"D" => read_header(fields).map(RecordingLine::Header),
+        b"G" => {
+            let [second, setpoint, actual] = exactly(fields)?;
+            Some(RecordingLine::Recorded(Recorded {
+                second: read_number(second)?,
+                sample: read_sample(setpoint, actual)?,
+            }))
+        }
+        b"E" => exactly(fields).map(|[]| RecordingLine::End),
+        _ => None,
+    }
+}
+
+fn read_sample(setpoint: &[u8], actual: &[u8]) -> Option<Sample> {
+    Some(Sample {
+        setpoint: read_number(setpoint)?,
+        actual: read_number(actual)?,
+    })
 }
 
 fn read_header<'a>(fields: impl Iterator<Item = &'a [u8]>) -> Option<Header> {
@@ -347,6 +391,54 @@ mod tests {
         ] {
             assert!(!is_well_formed(line), "{line:?}");
         }
+    }
+
+    #[test]
+    fn lines_of_a_recording() {
+        let read = |line: &str| read_recording_line(line.as_bytes());
+        let recorded = |second, setpoint, actual| {
+            Some(RecordingLine::Recorded(Recorded {
+                second,
+                sample: Sample { setpoint, actual },
+            }))
+        };
+        assert_eq!(read("G\t0\t-3\t4"), recorded(0, -3, 4));
+        assert_eq!(
+            read("G\t-999999999\t999999999\t0"),
+            recorded(-999_999_999, 999_999_999, 0)
+        );
+        assert_eq!(read("E"), Some(RecordingLine::End));
+        assert!(matches!(
+            read("D\t1999-13-00\t-1\t-\t0"),
+            Some(RecordingLine::Header(Header { lot: 5_000, .. }))
+        ));
+        for line in [
+            "",
+            "G",
+            "G\t0\t0",
+            "G\t0\t0\t0\t0",
+            "G\t0\t0\t0\t",
+            "G\t\t0\t0",
+            "G\t-\t0\t0",
+            "G\t-0\t0\t0",
+            "G\t007\t0\t0",
+            "G\t1000000000\t0\t0",
+            "G\t0\t0\t1000000000",
+            "G\t0\t0\t0\r",
+            "g\t0\t0\t0",
+            "E\t",
+            // Good lines of an input are none of a recording.
+            "S\t0\t0",
+            "C\tP\tA\t1\t1",
+            "O\t0\t0",
+            "B\t0",
+        ] {
+            assert_eq!(read(line), None, "{line:?}");
+        }
+        let long = "G\t0\t0\t".to_string() + &"1".repeat(74);
+        assert_eq!(read(&long), None);
+        // And the other way round.
+        assert!(!is_well_formed("G\t0\t0\t0"));
     }
 
     #[test]
