@@ -112,8 +112,8 @@ def keep(name, found):
 
 def inputs(count, first):
     """the examples by name, and the generated inputs by seed"""
-    for example in sorted((HERE.parent / "examples").glob("*.txt")):
-        yield example.stem, example.read_bytes()
+    for sheet in sorted((HERE.parent / "examples").glob("*.sheet")):
+        yield sheet.stem, sheet.with_suffix(".txt").read_bytes()
     generate = built(HERE / "generate")
     for seed in range(first, first + count):
         yield seed, subprocess.run([generate, str(seed)], stdout=subprocess.PIPE, check=True).stdout

@@ -450,7 +450,7 @@ fn chosen(random: &mut Random) -> [bool; 4] {
     }
 }
 
-fn spoil_header(random: &mut Random, header: &mut Header) {
+pub fn spoil_header(random: &mut Random, header: &mut Header) {
     let [interval, lot, date, quarter_hours] = chosen(random);
     if interval {
         header.interval = random.pick(&[0, 2, 5, -1, -3, -4, 10, 31, 999_999_999]);
@@ -508,7 +508,7 @@ pub fn spoil_contract(random: &mut Random, known: &[Contract], contract: &mut Co
 }
 
 /// Setpoint and actual about the ends of the range; mostly one of them.
-fn spoilt_sample(random: &mut Random) -> (i64, i64) {
+pub fn spoilt_sample(random: &mut Random) -> (i64, i64) {
     let mut power = || {
         let sign = random.pick(&[-1, 1]);
         sign * random.pick(&[
@@ -708,7 +708,7 @@ pub fn spoil_lines(random: &mut Random, lines: &mut Lines) {
 /// A line, each kind about as often although most are samples.
 fn place(random: &mut Random, lines: &Lines) -> usize {
     let last = lines.len() - 1;
-    let (first_contract, first_sample) = (first_of(lines, b"CSE"), first_of(lines, b"SE"));
+    let (first_contract, first_sample) = (first_of(lines, b"CSGE"), first_of(lines, b"SGE"));
     match random.below(10) {
         0 => 0,
         1 => last,

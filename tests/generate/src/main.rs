@@ -4,8 +4,9 @@
 //! (as without one), `calm` or `steps`, and NUMBER, from 1 to 365, makes it that
 //! day of a year of which no two days are the same; `generate join SEED PART` a
 //! run that is cut in two, where PART is `first`, `second` (to which the carry
-//! block that the first printed is still to be put) or `both`. `generate calls
-//! SEED` writes a script of library calls.
+//! block that the first printed is still to be put) or `both`. `generate mend
+//! SEED` writes a recording for the program that mends, `generate archive` a
+//! whole day of one, and `generate calls SEED` a script of library calls.
 
 mod block;
 mod calls;
@@ -15,6 +16,7 @@ mod day;
 mod join;
 mod plan;
 mod random;
+mod recording;
 
 use std::env;
 use std::io::{self, Write};
@@ -31,6 +33,8 @@ fn main() -> ExitCode {
             day_of(interval, contracts, which)
         }
         [mode, seed, part] if mode == "join" => part_of_join(seed, part),
+        [mode, seed] if mode == "mend" => seed.parse().ok().map(recording::recording),
+        [mode] if mode == "archive" => Some(recording::archive()),
         [mode, seed] if mode == "calls" => seed.parse().ok().map(calls::script),
         [seed] => seed.parse().ok().map(input),
         _ => None,
@@ -47,8 +51,8 @@ fn main() -> ExitCode {
 fn usage() -> ExitCode {
     let _ = writeln!(
         io::stderr(),
-        "usage: generate SEED, generate calls SEED, generate join SEED first|second|both, \
-         or generate day INTERVAL CONTRACTS [walk|calm|steps [NUMBER]]"
+        "usage: generate SEED, generate mend SEED, generate archive, generate calls SEED, \
+         generate join SEED first|second|both, or generate day INTERVAL CONTRACTS [walk|calm|steps [NUMBER]]"
     );
     ExitCode::from(2)
 }
