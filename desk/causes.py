@@ -5,7 +5,7 @@ import datetime
 import re
 
 from desk.illformed import Cause, cause_of_ill_form, encoding
-from desk.layout import PAST
+from desk.layout import PAST, Before
 from desk.refusals import remedy
 from desk.visible import grouped, visible
 
@@ -15,22 +15,40 @@ UNITS_PER_KW = 5400
 IDENTIFIER_LIMIT = 16
 
 
-def cause_of(number, line, before):
-    """the cause of a refusal: the line that was refused, and what stands before it"""
-    if number == 14:
-        return cause_of_ill_form(line)
-    return CAUSES[number](line, before) if number in CAUSES else Cause(FIELDS.get(number), None, None)
+def cause_of(program, refused, line, source):
+    """the cause of a refusal by a program: the line that was refused, and the source that it stands in"""
+    if refused.number == 14:
+        return cause_of_ill_form(line, program)
+    causes, before = _known_to(program)
+    if refused.number not in causes:
+        return Cause(FIELDS.get(refused.number), None, None)
+    return causes[refused.number](line, before(source, refused.line))
 
 
+def _known_to(program):
+    """the causes that are known for the refusals of a program, and what they are told of the lines before"""
+    if program == "mend":
+        # imported here, since it takes some of the causes that stand here
+        from desk import recordings
+        return recordings.CAUSES, recordings.Before
+    return CAUSES, Before
+
+
+EMPTY = Cause(None, "the input is empty", "look whether the right file was given")
 # The field that a number is about, where the number alone tells all.
 FIELDS = {2: 2, 3: 3, 5: 4, 9: 3, 11: 4}
+
+
+def no_header(line):
+    """another line comes before the header"""
+    return Cause(0, f"the first line has to be the header, and this one begins with {line.text[:1].decode()}",
+                 "put the D line first")
 
 
 def _wrong_moment(line, before):
     letter = line.text[:1]
     if before.header is None:
-        return Cause(0, f"the first line has to be the header, and this one begins with {letter.decode()}",
-                     "put the D line first")
+        return no_header(line)
     if letter == b"D":
         return Cause(0, f"a second header, {_so_far(before)}",
                      "give each day or stretch an input of its own, with one D line at its top and E at its end")
@@ -123,7 +141,8 @@ def _sample_too_many(before):
                  "there into the D line; after the last sample comes E")
 
 
-def _date(line, _before):
+def date(line, _before):
+    """a day that does not exist, or is not settled"""
     text = line.text.split(b"\t")[1].decode()
     year, month, day = map(int, text.split("-"))
     if not 1 <= month <= 12:
@@ -176,15 +195,24 @@ def _price(line, before):
                  f"{last.line}, has {grouped(last.price)} cent per MWh, and this one {grouped(int(price))}", None)
 
 
-def _power(line, _before):
-    _, *powers = line.text.split(b"\t")
-    place = next(place for place, power in enumerate(powers, 1) if abs(int(power)) > POWER_LIMIT)
+def power(line, _before):
+    """one of the last two fields is out of range"""
+    fields = line.text.split(b"\t")
+    first = len(fields) - 2
+    place = next(place for place, power in enumerate(fields[first:], first) if abs(int(power)) > POWER_LIMIT)
     return Cause(place, None, None)
 
 
 def _no_end(line, before):
     if line.length == 0:
         return _no_last_line(line, before)
+    return no_line_end(line) or Cause(
+        None, f"the last line has no line end and is not E, {_so_far(before)}: the input may be cut off",
+        "see that the input is whole; its last line is E, with a line end")
+
+
+def no_line_end(line):
+    """why a last line has no line end, or None where it may be cut off"""
     if line.text.strip() == b"E":
         return Cause(None, "the last line says E and has no line end: E counts with its line end alone",
                      "put a line end behind E, or: echo >>FILE")
@@ -193,14 +221,13 @@ def _no_end(line, before):
     if b"\r" in line.text:
         return Cause(None, "line ends of CR alone: lines end in LF",
                      "tr '\\r' '\\n' <FILE >MENDED, and see that a line E ends it")
-    return Cause(None, f"the last line has no line end and is not E, {_so_far(before)}: the input may be cut off",
-                 "see that the input is whole; its last line is E, with a line end")
+    return None
 
 
 def _no_last_line(line, before):
     """the input ends with a complete line, or has none"""
     if line.number == 1:
-        return Cause(None, "the input is empty", "look whether the right file was given")
+        return EMPTY
     if before.samples == before.samples_wanted():
         return Cause(None, "all samples are there, and no line E follows",
                      "put a line E at the end, or: echo E >>FILE")
@@ -208,5 +235,5 @@ def _no_last_line(line, before):
                  "see that the input is whole, and ends with a line E")
 
 
-CAUSES = {1: _wrong_moment, 4: _date, 6: _too_many_contracts, 7: _identifier, 8: _taken, 10: _awards, 12: _price,
-          13: _power, 15: _no_end, 17: _block_length, 18: _block_value}
+CAUSES = {1: _wrong_moment, 4: date, 6: _too_many_contracts, 7: _identifier, 8: _taken, 10: _awards, 12: _price,
+          13: power, 15: _no_end, 17: _block_length, 18: _block_value}

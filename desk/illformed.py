@@ -3,7 +3,7 @@ import collections
 import re
 
 from desk.forms import faulty
-from desk.layout import KINDS, pattern
+from desk.layout import KINDS, READS, pattern
 from desk.refusals import remedy
 from desk.visible import grouped, visible
 
@@ -14,11 +14,24 @@ LONGEST = 80
 FOR_TABS = ((b";", "semicolons", "tr ';' '\\t' <FILE >MENDED"), (b"|", "vertical bars", "tr '|' '\\t' <FILE >MENDED"),
             (b",", "commas", "tr ',' '\\t' <FILE >MENDED"), (b" ", "spaces", "tr -s ' ' '\\t' <FILE >MENDED"))
 
+# Lines of other texts, by the letters that begin them: what text, and what to do where one is given for another.
+ELSEWHERE = {
+    **dict.fromkeys(KINDS, ("an input", "give the recording as the archive has it; contracts come in by mend --into")),
+    **dict.fromkeys((b"V", b"Q", b"K", b"T", b"R"), ("a sheet", "give the input that the sheet was made from")),
+    b"G": ("a recording", "mend it first: fireboxer mend --into CONTRACTS RECORDING prints an input"),
+    b"X": ("a mended recording", "mend it with --into CONTRACTS, which prints an input without the marks"),
+}
 
-def cause_of_ill_form(line):
-    """the cause in a line that the program found ill-formed"""
-    for look in (encoding, line_ends, _blank, _signs_for_tabs, _length, _letter, _count, _fields):
+
+def cause_of_ill_form(line, program):
+    """the cause in a line that a program found ill-formed"""
+    text = READS[program]
+    for look in (encoding, line_ends, _blank):
         cause = look(line)
+        if cause:
+            return cause
+    for look in (_signs_for_tabs, _length, _letter, _count, _fields):
+        cause = look(line, text)
         if cause:
             return cause
     return Cause(None, "none that a look at the bytes shows", remedy(14))
@@ -57,10 +70,10 @@ def _blank(line):
                  "take the line out; an input has no blank lines, also not at its end")
 
 
-def _signs_for_tabs(line):
+def _signs_for_tabs(line, text):
     for sign, name, command in FOR_TABS:
         parts = re.split(b"[\t" + re.escape(sign) + b"]+", line.text)
-        wanted = len(KINDS[parts[0]].fields) if parts[0] in KINDS else 0
+        wanted = len(text.kinds[parts[0]].fields) if parts[0] in text.kinds else 0
         tabs = line.text.count(b"\t")
         if sign in line.text and tabs < wanted and (tabs == 0 or len(parts) == wanted + 1):
             return Cause(None, f"{name} for tabs: one tab stands between two fields",
@@ -68,38 +81,39 @@ def _signs_for_tabs(line):
     return None
 
 
-def _length(line):
+def _length(line, _text):
     if line.length <= LONGEST:
         return None
     return Cause(None, f"the line has {grouped(line.length)} bytes, and at most {LONGEST} are read",
                  "shorten the line; see that no line end is missing in it")
 
 
-def _letter(line):
+def _letter(line, text):
     first = line.text.split(b"\t")[0]
-    if first in KINDS:
+    if first in text.kinds:
         return None
-    if first.strip() in KINDS:
+    if first.strip() in text.kinds:
         return Cause(0, "a space beside the letter that begins the line", "take the space out")
-    if first.strip(b"\"'") in KINDS:
+    if first.strip(b"\"'") in text.kinds:
         return Cause(0, "quotation marks around the fields", "take the quotation marks out")
-    if first.upper() in KINDS:
+    if first.upper() in text.kinds:
         return Cause(0, "the letter in lower case", f"write {first.decode().upper()}")
     if first.startswith((b"#", b"//")):
-        return Cause(0, "a comment: an input has none", "take the line out")
-    if first in (b"V", b"Q", b"K", b"T", b"R"):
-        return Cause(0, f"{first.decode()} begins a line of a sheet, not of an input",
-                     "give the input that the sheet was made from")
+        return Cause(0, f"a comment: {text.name} has none", "take the line out")
+    if first in ELSEWHERE and b"\t" in line.text:
+        other, mend = ELSEWHERE[first]
+        return Cause(0, f"{first.decode()} begins a line of {other}, not of {text.name}", mend)
+    *letters, last = (letter.decode() for letter in text.kinds)
     return Cause(0, f"{visible(first[:16])} begins no line",
-                 "begin the line with D, O, B, C, S or E and a tab; after E comes the line end")
+                 f"begin the line with {', '.join(letters)} or {last} and a tab; after E comes the line end")
 
 
-def _count(line):
+def _count(line, text):
     letter, *fields = line.text.split(b"\t")
-    wanted = len(KINDS[letter].fields)
+    wanted = len(text.kinds[letter].fields)
     if len(fields) == wanted:
         return None
-    form = f"the form is {pattern(letter)}"
+    form = f"the form is {pattern(letter, text.kinds)}"
     if len(fields) > wanted and not any(fields[wanted:]):
         return Cause(wanted + 1, "a trailing tab", f"take the tab at the end of the line out; {form}")
     if len(fields) > wanted and b"" in fields:
@@ -108,9 +122,9 @@ def _count(line):
     return Cause(None, f"{which} fields: {len(fields) + 1}, and {wanted + 1} are wanted", form)
 
 
-def _fields(line):
+def _fields(line, text):
     letter, *fields = line.text.split(b"\t")
-    for place, (field, data) in enumerate(zip(KINDS[letter].fields, fields), 1):
+    for place, (field, data) in enumerate(zip(text.kinds[letter].fields, fields), 1):
         fault = faulty(field.form, data)
         if fault:
             return Cause(place, *fault)

@@ -150,8 +150,8 @@ class Input:
     def counted(self, _number):
         """how a line came to its number, where that has to be said"""
 
-    def line(self, number):
-        """the line of a number, or None where it is not kept any more or was not reached"""
+    def _start_of(self, number):
+        """where a line begins in the window, or None where it is not kept any more or was not reached"""
         ahead = number - 1 - self.lines_before
         if ahead < 0:
             return None
@@ -160,10 +160,28 @@ class Input:
             start = self.window.find(b"\n", start) + 1
             if start == 0:
                 return None
+        return start
+
+    def lines_back_from(self, number):
+        """the lines before a line, the newest first, as far as they are kept"""
+        end = self._start_of(number) or 0
+        while end:
+            start = self.window.rfind(b"\n", 0, end - 1) + 1
+            number -= 1
+            if start == 0 and self.begun_length:
+                return
+            yield Line(number, bytes(self.window[start:end - 1][:SHOWN]), end - 1 - start, True)
+            end = start
+
+    def line(self, number):
+        """the line of a number, or None where it is not kept any more or was not reached"""
+        start = self._start_of(number)
+        if start is None:
+            return None
         end = self.window.find(b"\n", start)
         complete = end >= 0
         rest = self.window[start:end] if complete else self.window[start:]
-        begun, length = (self.begun, self.begun_length) if ahead == 0 else (b"", 0)
+        begun, length = (self.begun, self.begun_length) if start == 0 else (b"", 0)
         return Line(number, bytes(begun + rest)[:SHOWN], length + len(rest), complete)
 
     def head_lines(self):

@@ -1,4 +1,5 @@
-"""The form of an input in names: the kinds of lines, their fields, and what stands before a refused line."""
+"""The form of what the programs read in names: the kinds of lines, their fields, and what stands before a line of an
+input that is refused."""
 import collections
 
 # a field's name in messages, and what form it has: date, number, bound, lot, direction or identifier
@@ -16,6 +17,17 @@ KINDS = {
     b"E": Kind("end", ()),
 }
 
+# the kinds of lines of a recording, which is mended before it is settled
+RECORDING = {
+    b"D": KINDS[b"D"],
+    b"G": Kind("recorded sample", (Field("second", "number"), *KINDS[b"S"].fields)),
+    b"E": KINDS[b"E"],
+}
+
+# what a program reads, by its name: what that is called, and its kinds of lines
+Text = collections.namedtuple("Text", "name kinds")
+READS = {"settle": Text("an input", KINDS), "mend": Text("a recording", RECORDING)}
+
 # the kinds of lines of a carry block, and how many B lines it has, by the interval in seconds
 BLOCK = (b"O", b"B")
 PAST = {1: 301, 3: 100, 4: 75}
@@ -23,9 +35,9 @@ PAST = {1: 301, 3: 100, 4: 75}
 Contract = collections.namedtuple("Contract", "line direction identifier award price")
 
 
-def pattern(letter):
+def pattern(letter, kinds):
     """how a kind of line is written, with <TAB> for the tab"""
-    return "<TAB>".join([letter.decode(), *(field.name.split(" in ")[0] for field in KINDS[letter].fields)])
+    return "<TAB>".join([letter.decode(), *(field.name.split(" in ")[0] for field in kinds[letter].fields)])
 
 
 class Before:

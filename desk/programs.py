@@ -24,7 +24,7 @@ def accepted(name, source, take):
     if refused:
         # imported here, since a run that is accepted needs none of it
         from desk.messages import refusal
-        say(refusal(source, refused))
+        say(refusal(source, refused, name))
     return not refused
 
 

@@ -4,13 +4,13 @@ the marked ones, and that settles.
 
   mended.py COMMAND SETTLE COUNT [FIRST_SEED]
 
-COMMAND reads a recording on standard input and prints it mended, SETTLE reads an input and prints a sheet; both may have
-arguments and are given in quotes, and the word `second` is the second program. The recordings are the example and those
-of `generate mend SEED`, the seeds from FIRST_SEED (1) on. Where one is mended to the end, its S lines have to be as many
-as its header asks for; without those marked M they have to be the good lines in order, those marked M have to repeat the
-sample before, and put between the contracts of an example and E they have to settle. The mended example has to be the
-day that it was made from, but for its marks. What fails is kept in the folder named by DIFFERING (differing, in the
-folder the script is called in). The exit status is 0 if all is so, 1 if not, 2 if nothing could be run."""
+COMMAND reads a recording on standard input and prints it mended, SETTLE reads an input and prints a sheet; both may
+have arguments and are given in quotes, and the word `second` is the second program. The recordings are the example and
+those of `generate mend SEED`, the seeds from FIRST_SEED (1) on. Where one is mended to the end, its S lines have to be
+as many as its header asks for; without those marked M they have to be the good lines in order, those marked M have to
+repeat the sample before, and put between the contracts of an example and E they have to settle. The mended example has
+to be the day that it was made from, but for its marks. What fails is kept in the folder named by DIFFERING (differing,
+in the folder the script is called in). The exit status is 0 if all is so, 1 if not, 2 if nothing could be run."""
 import os
 import pathlib
 import shlex
@@ -109,8 +109,8 @@ def main(command, settle, count, first="1"):
         if done and done % 100 == 0:
             print(f"{done} of {len(seeds)}: {wrong} fail", flush=True)
     refused = len(seeds) + 1 - mended
-    print(f"{mended - wrong} of {mended} mended recordings are whole and settle, {refused} were refused: the example and "
-          f"seeds {seeds[0]} to {seeds[-1]}")
+    print(f"{mended - wrong} of {mended} mended recordings are whole and settle, {refused} were refused: "
+          f"the example and seeds {seeds[0]} to {seeds[-1]}")
     return 1 if wrong or not mended or not refused else 0
 
 

@@ -40,9 +40,9 @@ def lines(*parts):
 GOOD = lines(HEADER, CONTRACTS, SAMPLES, "E")
 
 
-def program(data):
+def program(data, name="settle"):
     """what the proved program itself prints"""
-    return subprocess.run([ROOT / "tools" / "program", "settle"], input=data, stdout=subprocess.PIPE, check=True).stdout
+    return subprocess.run([ROOT / "tools" / "program", name], input=data, stdout=subprocess.PIPE, check=True).stdout
 
 
 def processes(wanted):
