@@ -19,3 +19,4 @@ mod Sheets
 mod Text
 mod Samples
 mod Feed
+mod Mending

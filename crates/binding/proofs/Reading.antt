@@ -10,6 +10,7 @@ use Rattle.reading.proofs.sample_line.Reads as sample-line
 use Rattle.reading.proofs.end_line.Reads as end-line
 use Rattle.reading.proofs.identifier.Reads as identifier
 use Rattle.reading.proofs.read.Reads as read
+use Rattle.reading.proofs.entry.read_entry.Reads as read-entry
 
 header-line-single : Single header-line.Post
 header-line-single κs a r r′ x x′ p q = p ∙ sym q
@@ -34,3 +35,6 @@ identifier-single κs a r r′ x x′ p q = p ∙ sym q
 
 read-single : Single read.Post
 read-single κs a r r′ x x′ p q = p ∙ sym q
+
+read-entry-single : Single read-entry.Post
+read-entry-single κs a r r′ x x′ p q = p ∙ sym q

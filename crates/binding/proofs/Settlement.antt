@@ -12,6 +12,8 @@ use Rattle.settlement.proofs.run.Run.room.Reads as room
 use Rattle.settlement.proofs.run.Run.take.Reads as take
 use Rattle.settlement.proofs.run.Run.end.Reads as end
 use Rattle.settlement.proofs.run.Run.heading.Reads as heading
+use Rattle.settlement.proofs.grounds.open_refusal.Reads as open-refusal
+use Rattle.settlement.proofs.plan.interval_of.Reads as interval-of
 
 opened-single : Single opened.Post
 opened-single κs a r r′ x x′ p q = p ∙ sym q
@@ -45,3 +47,9 @@ end-single κs a r r′ x x′ p q = p ∙ sym q
 
 heading-single : Single heading.Post
 heading-single κs a r r′ x x′ p q = p ∙ sym q
+
+open-refusal-single : Single open-refusal.Post
+open-refusal-single κs a r r′ x x′ p q = p ∙ sym q
+
+interval-of-single : Single interval-of.Post
+interval-of-single κs a r r′ x x′ p q = p ∙ sym q

@@ -1,4 +1,4 @@
--- How a recording ends, and all that is printed for it (docs/RULES.md, 'Mending'): what the meaning of a recording comes to, read from its end.
+-- How a recording ends, and all that is printed for it (docs/RULES.md, 'Mending a recording'): what the meaning of a recording comes to, read from its end.
 use Prim.Native.Nat.{ℕ, _+_}
 use mathlib.Core.Path.{_≡_}
 use mathlib.Core.Bool.{true, false, cond}

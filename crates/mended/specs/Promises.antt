@@ -1,4 +1,4 @@
--- The promises over a recording (docs/RULES.md, 'Mending'), over the list of what is printed for it.
+-- The promises over a recording (docs/RULES.md, 'Mending a recording'), over the list of what is printed for it.
 use Prim.Native.Nat.{ℕ, zero, suc, _+_, _*_, _≤_}
 use mathlib.Core.Path.{_≡_}
 use mathlib.Core.List.{List, [], _∷_, _++_}

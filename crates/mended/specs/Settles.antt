@@ -1,4 +1,4 @@
--- A mended recording is settled (docs/RULES.md, 'Mending'): its S lines between the day's contracts and E.
+-- A mended recording is settled (docs/RULES.md, 'Mending a recording'): its S lines between the day's contracts and E.
 use Prim.Native.Nat.{ℕ}
 use mathlib.Core.Path.{_≡_}
 use mathlib.Core.Bool.{cond}

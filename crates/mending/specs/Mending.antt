@@ -1,4 +1,4 @@
--- THE MEANING OF A RECORDING: which of its lines are good, what is refused, and what is printed, by what was given so far (docs/RULES.md, 'Mending').
+-- THE MEANING OF A RECORDING: which of its lines are good, what is refused, and what is printed, by what was given so far (docs/RULES.md, 'Mending a recording').
 use Prim.Native.Nat.{ℕ, zero, suc, _+_, _*_, _-_, _/_, _%_}
 use mathlib.Core.Bool.{Bool, true, false, cond, not, _&&_, _||_}
 use mathlib.Core.List.{List, [], _∷_, _++_}

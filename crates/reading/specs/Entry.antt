@@ -1,4 +1,4 @@
--- The lines of a recording, by their fields (docs/RULES.md, 'Mending'):
+-- The lines of a recording, by their fields (docs/RULES.md, 'Mending a recording'):
 --   D|date|interval|lot|quarters    G|second|setpoint|actual    E
 -- D and E are those of a settlement; any other first field is 14.
 use Prim.Native.Nat.{ℕ}
