@@ -1,0 +1,4 @@
+pub mod Temp
+pub mod Wanted
+pub mod Checked
+pub mod Promises
