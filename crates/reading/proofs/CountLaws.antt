@@ -1,8 +1,10 @@
 -- A line that was split has as many fields as its kind, or is malformed.
 use Prim.Native.Nat.{ℕ}
 use mathlib.Core.Path.{_≡_, sym, _∙_}
+use mathlib.Core.Bool.{true, false}
 use mathlib.Core.List.{List}
 use borrow.Author.Tests.{eq-eqb, ne-eqb}
+use lib.Dec.{eqb}
 use lib.ListN.{length}
 use Rattle.fields.specs.Fields.{fields}
 use Rattle.fields.specs.Split.{splitOf}
@@ -12,9 +14,16 @@ use Rattle.reading.specs.Line.{ofFields}
 use Rattle.reading.specs.declared.Line.{Line}
 use Rattle.reading.specs.declared.Line.the-variants.{Malformed}
 
-module _ (line : List ℕ) {split : Split} (same : split ≡ splitOf line) {n : ℕ} (said : Line) where
-  pub other-count : (split .count ≡ n → ⊥) → Malformed ≡ ofFields n (fields line) said
-  other-count other = rw (ne-eqb (length (fields line)) n (λ e. other (split-count line same ∙ e)))
+module _ (line : List ℕ) {split : Split} (same : split ≡ splitOf line) {n : ℕ} where
+  pub not-so-many : (split .count ≡ n → ⊥) → eqb (length (fields line)) n ≡ false
+  not-so-many other = ne-eqb (length (fields line)) n (λ e. other (split-count line same ∙ e))
 
-  pub its-count : split .count ≡ n → ofFields n (fields line) said ≡ said
-  its-count e = rw (eq-eqb (length (fields line)) n (sym (split-count line same) ∙ e))
+  pub so-many : split .count ≡ n → eqb (length (fields line)) n ≡ true
+  so-many e = eq-eqb (length (fields line)) n (sym (split-count line same) ∙ e)
+
+  module _ (said : Line) where
+    pub other-count : (split .count ≡ n → ⊥) → Malformed ≡ ofFields n (fields line) said
+    other-count other = rw (not-so-many other)
+
+    pub its-count : split .count ≡ n → ofFields n (fields line) said ≡ said
+    its-count e = rw (so-many e)
