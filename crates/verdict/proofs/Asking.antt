@@ -19,7 +19,10 @@ use Rattle.reading.specs.declared.Kind.{Kind}
 use Rattle.reading.specs.declared.Kind.the-variants as K
 use Rattle.reading.specs.declared.Line.{Line}
 use Rattle.reading.specs.declared.Line.the-variants as L
-use Rattle.verdict.specs.Temp.{Asked, Settling, Share, shareFields, shareOf, askedOf}
+use Rattle.reading.specs.declared.share.Share.{Share}
+use Rattle.reading.specs.declared.share.Asked.{Asked}
+use Rattle.reading.specs.declared.share.Asked.the-variants as A
+use Rattle.reading.specs.Share.{shareFields, shareOf, askedOf}
 
 -- ---- one letter and no other
 
@@ -40,11 +43,11 @@ u-unknown field e =
 
 -- ---- what a share line that is none says: malformed
 
-share-settles : (fs : List (List ℕ)) (said : Line) → shareOf fs ≡ Settling said → L.Malformed ≡ said
+share-settles : (fs : List (List ℕ)) (said : Line) → shareOf fs ≡ A.Settling said → L.Malformed ≡ said
 unfolding shareOf
 share-settles fs said = go (eqb (length fs) 5) (numberOf (fieldAt 1 fs)) (directionOf (fieldAt 2 fs)) (numberOf (fieldAt 4 fs))
   where
-    go : (t : Bool) (q : Number) (d : DirectionField) (k : Number) → cond t (shareFields q d k) (Settling L.Malformed) ≡ Settling said → L.Malformed ≡ said
+    go : (t : Bool) (q : Number) (d : DirectionField) (k : Number) → cond t (shareFields q d k) (A.Settling L.Malformed) ≡ A.Settling said → L.Malformed ≡ said
     go false q d k e = cc
     go true (N.Value q) (DF.Of d) (N.Value k) e = let z : _≡_ {A = ℕ} 0 1 = cc in absurd (omega arith)
     go true (N.Value q) (DF.Of d) N.Malformed e = cc
@@ -53,24 +56,24 @@ share-settles fs said = go (eqb (length fs) 5) (numberOf (fieldAt 1 fs)) (direct
 
 -- ---- so
 
-pub settling-line : (line : List ℕ) (said : Line) → askedOf line ≡ Settling said → lineOf line ≡ said
+pub settling-line : (line : List ℕ) (said : Line) → askedOf line ≡ A.Settling said → lineOf line ≡ said
 unfolding askedOf lineOf
 settling-line line said = go (ltb 80 (length line)) (isLetter 85 (fieldAt 0 (fields line))) refl
   where
     go : (t u : Bool) → isLetter 85 (fieldAt 0 (fields line)) ≡ u
-        → cond t (Settling L.Malformed) (cond u (shareOf (fields line)) (Settling (cond t L.Malformed (byKind (kindOf (fieldAt 0 (fields line))) (fields line))))) ≡ Settling said
+        → cond t (A.Settling L.Malformed) (cond u (shareOf (fields line)) (A.Settling (cond t L.Malformed (byKind (kindOf (fieldAt 0 (fields line))) (fields line))))) ≡ A.Settling said
         → cond t L.Malformed (byKind (kindOf (fieldAt 0 (fields line))) (fields line)) ≡ said
     go true u p e = cc
     go false true p e = rw (u-unknown (fieldAt 0 (fields line)) p) (share-settles (fields line) said e)
     go false false p e = cc
 
-pub line-settling : (line : List ℕ) → (lineOf line ≡ L.Malformed → ⊥) → askedOf line ≡ Settling (lineOf line)
+pub line-settling : (line : List ℕ) → (lineOf line ≡ L.Malformed → ⊥) → askedOf line ≡ A.Settling (lineOf line)
 unfolding askedOf lineOf
 line-settling line = go (ltb 80 (length line)) (isLetter 85 (fieldAt 0 (fields line))) refl
   where
     go : (t u : Bool) → isLetter 85 (fieldAt 0 (fields line)) ≡ u → (cond t L.Malformed (byKind (kindOf (fieldAt 0 (fields line))) (fields line)) ≡ L.Malformed → ⊥)
-        → cond t (Settling L.Malformed) (cond u (shareOf (fields line)) (Settling (cond t L.Malformed (byKind (kindOf (fieldAt 0 (fields line))) (fields line)))))
-        ≡ Settling (cond t L.Malformed (byKind (kindOf (fieldAt 0 (fields line))) (fields line)))
+        → cond t (A.Settling L.Malformed) (cond u (shareOf (fields line)) (A.Settling (cond t L.Malformed (byKind (kindOf (fieldAt 0 (fields line))) (fields line)))))
+        ≡ A.Settling (cond t L.Malformed (byKind (kindOf (fieldAt 0 (fields line))) (fields line)))
     go true u p n = refl
     go false true p n = absurd (n (rw (u-unknown (fieldAt 0 (fields line)) p)))
     go false false p n = refl

@@ -1,3 +1,4 @@
 pub mod Verdicts
 pub mod Asking
 pub mod Outcomes
+pub mod Inputs

@@ -11,13 +11,17 @@ use Rattle.print.specs.Decimal.{digits}
 use Rattle.sheets.specs.Sheet.{lineText, letterOf}
 use Rattle.lines.specs.Lines.{linesOf}
 use Rattle.reading.specs.Line.{lineOf, identifierOf}
+use Rattle.reading.specs.declared.Line.{Line}
 use Rattle.reading.specs.declared.Line.the-variants as L
 use Rattle.quarter.specs.Quarter.{shareIn}
 use Rattle.series.specs.Scan.{each}
 use Rattle.meaning.specs.Given.{Deal, Given, dealsIn, quartersIn, linesIn}
 use Rattle.meaning.specs.Meaning.{nothing, these, ground}
 use Rattle.meaning.specs.Endings.{Accepts}
-use Rattle.verdict.specs.Temp.{ShareT, Share, askedOf, whoseOf}
+use Rattle.reading.specs.declared.share.Share.{Share}
+use Rattle.reading.specs.declared.share.Asked.{Asked}
+use Rattle.reading.specs.declared.share.Asked.the-variants as A
+use Rattle.reading.specs.Share.{askedOf, whoseOf}
 use Rattle.verdict.specs.Wanted.{Wanted, wantedIn, AcceptableAt}
 
 -- ---- what an input says
@@ -25,7 +29,7 @@ use Rattle.verdict.specs.Wanted.{Wanted, wantedIn, AcceptableAt}
 -- lines that say the shares that are wanted, one each, in order
 pub data SaysShares : List (List ℕ) → List Wanted → List ℤ → Type 0 where
   none : SaysShares [] [] []
-  more : {line : List ℕ} {lines : List (List ℕ)} {w : Wanted} {ws : List Wanted} {shares : List ℤ} (s : ShareT) → askedOf line ≡ Share s → s .quarter ≡ pos (w .quarter)
+  more : {line : List ℕ} {lines : List (List ℕ)} {w : Wanted} {ws : List Wanted} {shares : List ℤ} (s : Share) → askedOf line ≡ A.Share s → s .quarter ≡ pos (w .quarter)
       → s .direction ≡ w .direction → whoseOf line ≡ w .identifier → SaysShares lines ws shares → SaysShares (line ∷ lines) (w ∷ ws) (s .kwh ∷ shares)
 
 -- an input that is settled without a refusal up to its E, and after it the U lines that are wanted, and nothing else
@@ -72,3 +76,25 @@ unfoldable pub ownText : Given → ℕ → List ℕ
 ownText g zero = []
 ownText g (suc q) =
     ownText g q ++ (sharesText q Positive (g .positives) (each shareIn (linesIn Positive g q)) ++ sharesText q Negative (g .negatives) (each shareIn (linesIn Negative g q)))
+
+-- an input up to and including its E: the lines, each with its LF
+abbrev pub stopAfter : Line → List (List ℕ) → List (List ℕ)
+stopAfter (L.Header h) rest = rest
+stopAfter (L.Bounds bounds) rest = rest
+stopAfter (L.Setpoint s) rest = rest
+stopAfter (L.Contract c) rest = rest
+stopAfter (L.Sample x) rest = rest
+stopAfter L.End rest = []
+stopAfter L.Malformed rest = rest
+
+unfoldable pub untilEnd : List (List ℕ) → List (List ℕ)
+untilEnd [] = []
+untilEnd (line ∷ lines) = line ∷ stopAfter (lineOf line) (untilEnd lines)
+
+unfoldable pub asText : List (List ℕ) → List ℕ
+asText [] = []
+asText (line ∷ lines) = line ++ (10 ∷ asText lines)
+
+-- with our own shares after it
+abbrev pub withOwnShares : List ℕ → Given → List ℕ
+withOwnShares input g = asText (untilEnd (linesOf input)) ++ ownText g (quartersIn g)
