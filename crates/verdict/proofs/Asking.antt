@@ -1,28 +1,25 @@
 -- A line of an input that is settled is read as when it is settled, and a U line is none.
 -- Assumes nothing.
 use Prim.Native.Nat.{ℕ}
-use mathlib.Core.Path.{_≡_, refl, sym, ap, _∙_}
+use mathlib.Core.Path.{_≡_, refl}
 use mathlib.Core.Bool.{Bool, true, false, cond, _&&_}
 use mathlib.Core.List.{List}
 use native.Mathlib.Omega.{arith}
-use borrow.Author.Tests.{eqb-true}
 use lib.Dec.{eqb, ltb}
 use lib.ListN.{length, getD}
+use borrow.Author.Tests.{eqb-true}
 use Rattle.fields.specs.Fields.{fields, fieldAt}
 use Rattle.fields.specs.Numbers.{numberOf}
 use Rattle.fields.specs.declared.number.Number.{Number}
-use Rattle.fields.specs.declared.number.Number.the-variants as N
 use Rattle.reading.specs.Line.{isLetter, kindOf, byKind, directionOf, lineOf}
 use Rattle.reading.specs.declared.DirectionField.{DirectionField}
-use Rattle.reading.specs.declared.DirectionField.the-variants as DF
-use Rattle.reading.specs.declared.Kind.{Kind}
-use Rattle.reading.specs.declared.Kind.the-variants as K
 use Rattle.reading.specs.declared.Line.{Line}
-use Rattle.reading.specs.declared.Line.the-variants as L
-use Rattle.reading.specs.declared.share.Share.{Share}
-use Rattle.reading.specs.declared.share.Asked.{Asked}
-use Rattle.reading.specs.declared.share.Asked.the-variants as A
 use Rattle.reading.specs.Share.{shareFields, shareOf, askedOf}
+use Rattle.fields.specs.declared.number.Number.the-variants as N
+use Rattle.reading.specs.declared.DirectionField.the-variants as DF
+use Rattle.reading.specs.declared.Kind.the-variants as K
+use Rattle.reading.specs.declared.Line.the-variants as L
+use Rattle.reading.specs.declared.share.Asked.the-variants as A
 
 -- ---- one letter and no other
 

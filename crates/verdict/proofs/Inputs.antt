@@ -2,29 +2,28 @@
 -- Assumes nothing.
 use Prim.Native.Nat.{ℕ, zero, suc, _+_, _<_}
 use mathlib.Core.Path.{_≡_, refl, sym, ap, _∙_}
-use mathlib.Core.Bool.{true}
-use mathlib.Core.List.{List, [], _∷_, _++_}
+use mathlib.Core.List.{List, [], _++_}
 use native.Mathlib.Omega.{arith}
+use native.Mathlib.Decide.{decLt}
 use lib.IntN.{ℤ}
 use lib.ListN.{length, getD}
 use Rattle.series.specs.Scan.{each}
 use Rattle.vocabulary.specs.declared.direction.Direction.{Direction}
 use Rattle.vocabulary.specs.declared.direction.Direction.the-variants.{Positive, Negative}
-use Rattle.contracts.specs.Identifier.{wellFormed}
 use Rattle.sheets.specs.Sheet.{lineText, refusalText}
 use Rattle.sheets.specs.Verdict.{acceptedText, failingText, verdictText}
 use Rattle.sheets.specs.declared.verdict.Verdict.{Verdict}
 use Rattle.sheets.specs.declared.verdict.Verdict.the-variants.{Accepted, Failing}
 use Rattle.lines.specs.Lines.{linesOf}
 use Rattle.meaning.specs.Given.{Deal, Given, quartersIn}
-use Rattle.meaning.specs.Meaning.{SoFar, nothing, these}
+use Rattle.meaning.specs.Meaning.{nothing, these}
 use Rattle.meaning.specs.Endings.{Accepts, Each, of-none, of-more, FairDeal, Proper, ProperSo, not-yet, so-far}
 use Rattle.meaning.proofs.Proper.{proper-lines}
-use Rattle.verdict.specs.Wanted.{Wanted, wantedOf, wantedUpTo, wantedIn, verdictOf}
+use Rattle.verdict.specs.Wanted.{wantedOf, wantedUpTo, verdictOf}
 use Rattle.verdict.specs.Checked.{Outcome, refused, judged, outcome, outcomeOf, told, checked}
-use Rattle.verdict.specs.Promises.{SharesSaid, AllAcceptable, FirstFailing}
+use Rattle.verdict.specs.Promises.{SharesSaid, AllAcceptable, earlier, first, FirstFailing, IsAccepted, Judges, accepts, names}
 use Rattle.verdict.proofs.Verdicts.{verdict-accepts, accepted-holds, failing-first}
-use Rattle.verdict.proofs.Outcomes.{Named, lines-judged, ends-shares, Parted, judged-ends}
+use Rattle.verdict.proofs.Outcomes.{Named, lines-judged, ends-shares, judged-ends}
 
 -- ---- the identifiers that are wanted are well-formed
 
@@ -82,18 +81,7 @@ shares-checked s = ap told (said-judged s)
 pub acceptable-accepted : {input : List ℕ} {g : Given} {shares : List ℤ} → SharesSaid input g shares → AllAcceptable g shares → checked input ≡ acceptedText (quartersIn g)
 acceptable-accepted {input} {g} {shares} s all = shares-checked s ∙ ap verdictText (verdict-accepts g shares all)
 
--- the letter that a text begins with
-starts : List ℕ → ℕ
-starts l = getD l 0 0
-
 -- AND NOTHING ELSE IS ACCEPTED
-pub record IsAccepted (input : List ℕ) (n : ℕ) : Type 0 where
-  pub given : Given
-  pub shares : List ℤ
-  pub said : SharesSaid input given shares
-  pub all : AllAcceptable given shares
-  pub quarters : acceptedText n ≡ acceptedText (quartersIn given)
-
 pub accepted-only : (input : List ℕ) (n : ℕ) → checked input ≡ acceptedText n → IsAccepted input n
 unfolding checked acceptedText failingText refusalText lineText
 accepted-only input n = go (outcomeOf input) refl
@@ -116,8 +104,27 @@ accepted-only input n = go (outcomeOf input) refl
         by (Failing q d) r t = let z : _≡_ {A = ℕ} 70 65 = ap (λ (l : List ℕ). getD l 0 0) t in absurd (omega arith)
 
 -- OTHERWISE THE FIRST that does not hold is named
-pub record IsFailing (input : List ℕ) (q : ℕ) (d : Direction) : Type 0 where
-  pub given : Given
-  pub shares : List ℤ
-  pub said : SharesSaid input given shares
-  pub first : FirstFailing given shares q d
+pub checked-judges : {input : List ℕ} {g : Given} {shares : List ℤ} → SharesSaid input g shares → Judges g shares (checked input)
+checked-judges {input} {g} {shares} s = rw (shares-checked s) (by (verdictOf g shares) refl)
+  where
+    by : (v : Verdict) → verdictOf g shares ≡ v → Judges g shares (verdictText v)
+    by (Accepted m) q =
+        let all : AllAcceptable g shares = accepted-holds g shares m q in
+        let same : Accepted m ≡ Accepted (quartersIn g) = sym q ∙ verdict-accepts g shares all in
+        accepts all (ap verdictText same)
+    by (Failing q d) e = names q d (failing-first g shares q d e) refl
+
+-- there is one first only
+pub first-only : (g : Given) (shares : List ℤ) (p q : ℕ) (c d : Direction) → FirstFailing g shares p c → FirstFailing g shares q d → (p ≡ q) × (c ≡ d)
+first-only g shares p q c d a b = go (decLt p q) (decLt q p)
+  where
+    same : (c d : Direction) → FirstFailing g shares p c → FirstFailing g shares p d → c ≡ d
+    same Positive Positive a b = refl
+    same Positive Negative a b = absurd (a .fails (b .others p Positive first))
+    same Negative Positive a b = absurd (b .fails (a .others p Positive first))
+    same Negative Negative a b = refl
+
+    go : Dec (p < q) → Dec (q < p) → (p ≡ q) × (c ≡ d)
+    go (yes h) l = absurd (a .fails (b .others p c (earlier h)))
+    go (no h) (yes l) = absurd (b .fails (a .others q d (earlier l)))
+    go (no h) (no l) = let e : p ≡ q = omega arith in (e, same c d a (rw (← e) at b))

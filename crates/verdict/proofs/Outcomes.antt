@@ -5,11 +5,11 @@ use mathlib.Core.Path.{_≡_, refl, sym, ap, _∙_}
 use mathlib.Core.Bool.{Bool, true, false, cond, not, _&&_}
 use mathlib.Core.List.{List, [], _∷_, _++_, append-assoc, append-nil}
 use native.Mathlib.Omega.{arith}
-use borrow.Author.Tests.{eqb-true, eq-eqb, le-ltb, not-true}
-use lib.Dec.{eqb, ltb}
+use lib.Dec.{eqb}
 use lib.IntN.{ℤ, pos, negsuc}
-use lib.ListN.{length, drop, getD}
+use lib.ListN.{length, drop}
 use lib.Signed.{ltZ}
+use borrow.Author.Tests.{eqb-true, eq-eqb, le-ltb, not-true}
 use Rattle.arithmetic.specs.Whole.{up}
 use Rattle.arithmetic.proofs.Signed.{up-pos}
 use Rattle.vocabulary.specs.declared.direction.Direction.{Direction}
@@ -22,20 +22,21 @@ use Rattle.contracts.specs.Identifier.{wellFormed, sameBytes}
 use Rattle.sheets.specs.Sheet.{letterOf}
 use Rattle.reading.specs.Line.{lineOf, identifierOf}
 use Rattle.reading.specs.declared.Line.{Line}
-use Rattle.reading.specs.declared.Line.the-variants as L
 use Rattle.meaning.specs.Given.{Given}
 use Rattle.meaning.specs.Meaning.{SoFar, nothing, these, lacks, grounds, ground, after}
-use Rattle.meaning.specs.Endings.{Accepts, none, more, Each, of-none, of-more}
+use Rattle.meaning.specs.Endings.{Accepts, none, more, Each, of-more}
 use Rattle.reading.specs.declared.share.Share.{Share}
 use Rattle.reading.specs.declared.share.Asked.{Asked}
-use Rattle.reading.specs.declared.share.Asked.the-variants as A
 use Rattle.reading.specs.Share.{askedOf, whoseOf}
 use Rattle.verdict.specs.Wanted.{Wanted, wantedIn}
-use Rattle.verdict.specs.Checked.{saysFor, askedGrounds, askedGround, afterAsked, shareGrounds, shareGround, tooLate, withShare, Outcome, refused, judged, unlessMissing, shareLines, afterEnd, unlessEnd, outcome}
+use Rattle.verdict.specs.Checked.{saysFor, askedGrounds, askedGround, afterAsked, shareGrounds, shareGround, withShare}
+use Rattle.verdict.specs.Checked.{Outcome, refused, judged, shareLines, afterEnd, unlessEnd, outcome}
 use Rattle.verdict.specs.Promises.{SaysShares}
-use Rattle.verdict.specs.Promises as P
 use Rattle.join.proofs.Accepting.{accept}
 use Rattle.verdict.proofs.Asking.{settling-line, line-settling}
+use Rattle.reading.specs.declared.Line.the-variants as L
+use Rattle.reading.specs.declared.share.Asked.the-variants as A
+use Rattle.verdict.specs.Promises as P
 
 never : {X : Type 0} → _≡_ {A = Bool} false true → X
 never e = let z : _≡_ {A = ℕ} 0 1 = cc in absurd (omega arith)

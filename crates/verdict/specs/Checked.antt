@@ -17,16 +17,15 @@ use Rattle.sheets.specs.Sheet.{letterOf, refusalText}
 use Rattle.lines.specs.Lines.{linesOf}
 use Rattle.reading.specs.Line.{identifierOf}
 use Rattle.reading.specs.declared.Line.{Line}
-use Rattle.reading.specs.declared.Line.the-variants as L
 use Rattle.meaning.specs.Given.{Given}
 use Rattle.meaning.specs.Meaning.{SoFar, nothing, these, lacks, only, grounds, after}
 use Rattle.reading.specs.declared.share.Share.{Share}
 use Rattle.reading.specs.declared.share.Asked.{Asked}
-use Rattle.reading.specs.declared.share.Asked.the-variants as A
 use Rattle.reading.specs.Share.{askedOf, whoseOf}
 use Rattle.sheets.specs.Verdict.{verdictText}
-use Rattle.sheets.specs.declared.verdict.Verdict.{Verdict}
 use Rattle.verdict.specs.Wanted.{Wanted, wantedIn, verdictOf}
+use Rattle.reading.specs.declared.Line.the-variants as L
+use Rattle.reading.specs.declared.share.Asked.the-variants as A
 
 -- ---- up to E
 

@@ -9,20 +9,20 @@ use Rattle.vocabulary.specs.declared.direction.Direction.the-variants.{Positive
 use Rattle.vocabulary.specs.Refusals.{accepted}
 use Rattle.print.specs.Decimal.{digits}
 use Rattle.sheets.specs.Sheet.{lineText, letterOf}
+use Rattle.sheets.specs.Verdict.{acceptedText, failingText}
 use Rattle.lines.specs.Lines.{linesOf}
 use Rattle.reading.specs.Line.{lineOf, identifierOf}
 use Rattle.reading.specs.declared.Line.{Line}
-use Rattle.reading.specs.declared.Line.the-variants as L
 use Rattle.quarter.specs.Quarter.{shareIn}
 use Rattle.series.specs.Scan.{each}
-use Rattle.meaning.specs.Given.{Deal, Given, dealsIn, quartersIn, linesIn}
+use Rattle.meaning.specs.Given.{Deal, Given, quartersIn, linesIn}
 use Rattle.meaning.specs.Meaning.{nothing, these, ground}
 use Rattle.meaning.specs.Endings.{Accepts}
 use Rattle.reading.specs.declared.share.Share.{Share}
-use Rattle.reading.specs.declared.share.Asked.{Asked}
-use Rattle.reading.specs.declared.share.Asked.the-variants as A
 use Rattle.reading.specs.Share.{askedOf, whoseOf}
 use Rattle.verdict.specs.Wanted.{Wanted, wantedIn, AcceptableAt}
+use Rattle.reading.specs.declared.Line.the-variants as L
+use Rattle.reading.specs.declared.share.Asked.the-variants as A
 
 -- ---- what an input says
 
@@ -59,6 +59,19 @@ pub record FirstFailing (g : Given) (shares : List ℤ) (q : ℕ) (d : Direction
   pub within : q < quartersIn g
   pub fails : AcceptableAt g shares q d → ⊥
   pub others : (p : ℕ) (c : Direction) → Before p c q d → AcceptableAt g shares p c
+
+-- what is printed where the U lines are those that are wanted
+pub data Judges (g : Given) (shares : List ℤ) (text : List ℕ) : Type 0 where
+  accepts : AllAcceptable g shares → text ≡ acceptedText (quartersIn g) → Judges g shares text
+  names : (q : ℕ) (d : Direction) → FirstFailing g shares q d → text ≡ failingText q d → Judges g shares text
+
+-- AN INPUT THAT IS ACCEPTED, with A and n
+pub record IsAccepted (input : List ℕ) (n : ℕ) : Type 0 where
+  pub given : Given
+  pub shares : List ℤ
+  pub said : SharesSaid input given shares
+  pub all : AllAcceptable given shares
+  pub quarters : acceptedText n ≡ acceptedText (quartersIn given)
 
 -- ---- our own shares, as an operator would have to write them
 
