@@ -36,7 +36,14 @@ other-letter a b field e n = go (eqb (length field) 1) (eqb (getD field 0 0) a) 
 u-unknown : (field : List ℕ) → isLetter 85 field ≡ true → kindOf field ≡ K.Unknown
 unfolding kindOf
 u-unknown field e =
-    rw (other-letter 85 68 field e refl, other-letter 85 79 field e refl, other-letter 85 66 field e refl, other-letter 85 67 field e refl, other-letter 85 83 field e refl, other-letter 85 69 field e refl)
+    rw (
+      other-letter 85 68 field e refl,
+      other-letter 85 79 field e refl,
+      other-letter 85 66 field e refl,
+      other-letter 85 67 field e refl,
+      other-letter 85 83 field e refl,
+      other-letter 85 69 field e refl,
+    )
 
 -- ---- what a share line that is none says: malformed
 

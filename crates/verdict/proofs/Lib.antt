@@ -3,3 +3,7 @@ pub mod Asking
 pub mod Outcomes
 pub mod Inputs
 pub mod Own
+pub mod Gaps
+pub mod Places
+pub mod Judging
+pub mod Program

@@ -38,7 +38,7 @@ use Rattle.reading.specs.declared.Line.the-variants as L
 use Rattle.reading.specs.declared.share.Asked.the-variants as A
 use Rattle.verdict.specs.Promises as P
 
-never : {X : Type 0} → _≡_ {A = Bool} false true → X
+pub never : {X : Type 0} → _≡_ {A = Bool} false true → X
 never e = let z : _≡_ {A = ℕ} 0 1 = cc in absurd (omega arith)
 
 both : (s t : Bool) → (s && t) ≡ true → (s ≡ true) × (t ≡ true)
@@ -128,7 +128,7 @@ record Judged (g : Given) (us : List (List ℕ)) (ws : List Wanted) (before : Li
 apart : {X : Type 0} {n : ℕ} {refusal : Refusal} {g : Given} {shares : List ℤ} → refused n refusal ≡ judged g shares → X
 apart e = let z : _≡_ {A = ℕ} 0 1 = cc in absurd (omega arith)
 
-late-refused : (ws : List Wanted) (line : List ℕ) (said : Line) → accepted (shareGround ws line (A.Settling said)) ≡ false
+pub late-refused : (ws : List Wanted) (line : List ℕ) (said : Line) → accepted (shareGround ws line (A.Settling said)) ≡ false
 unfolding shareGrounds
 late-refused ws line (L.Header h) = refl
 late-refused ws line (L.Bounds bounds) = refl
@@ -147,7 +147,7 @@ passed-both true true e = refl
 passed-both true false e = never e
 passed-both false b e = never e
 
-surplus-refused : (line : List ℕ) (s : Share) → accepted (shareGround [] line (A.Share s)) ≡ false
+pub surplus-refused : (line : List ℕ) (s : Share) → accepted (shareGround [] line (A.Share s)) ≡ false
 unfolding shareGrounds
 surplus-refused line s = go (wellFormed (whoseOf line))
   where
@@ -228,7 +228,7 @@ pub record Parted (so : SoFar) (lines : List (List ℕ)) (g : Given) (shares : L
   pub complete : accepted (ground (these g) (identifierOf end) L.End) ≡ true
   pub said : SaysShares after (wantedIn g) shares
 
-early-refused : (so : SoFar) (line : List ℕ) (s : Share) → accepted (askedGround so line (A.Share s)) ≡ false
+pub early-refused : (so : SoFar) (line : List ℕ) (s : Share) → accepted (askedGround so line (A.Share s)) ≡ false
 unfolding askedGrounds
 early-refused nothing line s = refl
 early-refused (these g) line s = go (wellFormed (whoseOf line)) (lacks g)

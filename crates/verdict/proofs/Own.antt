@@ -261,11 +261,11 @@ module _ (g : Given) (p : Proper g) where
         suc-mul q (perQuarterHour g),
       )
 
-  place-within : (d : Direction) (q n : ℕ) → q < n → sharesBefore d g q + length (dealsIn d g) ≤ n * perQuarterHour g
+  pub place-within : (d : Direction) (q n : ℕ) → q < n → sharesBefore d g q + length (dealsIn d g) ≤ n * perQuarterHour g
   place-within Positive q n h = let l : suc q ≤ n = h in omega (arith, mul-le-mul-right (perQuarterHour g) l, suc-mul q (perQuarterHour g))
   place-within Negative q n h = let l : suc q ≤ n = h in omega (arith, mul-le-mul-right (perQuarterHour g) l, suc-mul q (perQuarterHour g))
 
-  still-there : (d : Direction) (q : ℕ) (a b : List ℤ) → sharesBefore d g q + length (dealsIn d g) ≤ length a → sharesAt d g q (a ++ b) ≡ sharesAt d g q a
+  pub still-there : (d : Direction) (q : ℕ) (a b : List ℤ) → sharesBefore d g q + length (dealsIn d g) ≤ length a → sharesAt d g q (a ++ b) ≡ sharesAt d g q a
   unfolding sharesAt
   still-there d q a b h =
       rw (drop-append-le (sharesBefore d g q) a b (omega arith))
