@@ -7,3 +7,4 @@ pub mod Gaps
 pub mod Places
 pub mod Judging
 pub mod Program
+pub mod Fed
