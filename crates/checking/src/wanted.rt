@@ -7,7 +7,8 @@ use settlement::run::Run;
 use vocabulary::direction::Direction;
 use vocabulary::refusal::Refusal;
 ghost use mathlib.Core.Path.{_≡_};
-ghost use Prim.Native.Nat.{_+_, _<_, _≤_};
+ghost use Prim.Native.Nat.{_+_, _^_, _<_, _≤_};
+ghost use Rattle.vocabulary.specs.Refusals.{numberOf};
 ghost use Rattle.checking.specs.Wanted.{wantedIn, placeOf, isQuarter, sameDirection, saysPlace, isWanted, shareGround, earlyGround};
 
 // What a U line has to say: the quarter hour, the direction, and the contract by its place in its list.
@@ -109,7 +110,8 @@ pub(crate) fn share_refusal(
     share: Share,
     identifier: &[u8],
 ) -> Refusal
-    ensures { λ r. ⌜ r ≡ shareGround books quarters given share (now (identifier .entry)) ⌝ }
+    ensures is { λ r. ⌜ r ≡ shareGround books quarters given share (now (identifier .entry)) ⌝ }
+    ensures few { λ r. ⌜ (numberOf r ≡ 0 → given < 2 ^ 32) ⌝ }
 {
     if !well_formed(identifier) {
         return Refusal::BadIdentifier;
