@@ -266,13 +266,7 @@ impl Checker {
     }
 
     // A line after E.
-    fn asked_later(
-        run: Run,
-        number: u64,
-        given: usize,
-        line: &[u8],
-        shares: &mut [i32],
-    ) -> Checker
+    fn asked_later(run: Run, number: u64, given: usize, line: &[u8], shares: &mut [i32]) -> Checker
         ensures { λ r. ⌜ ((gaps : List (List ℕ)) (surpluses : List ℕ) → laterTurn (keeping gaps surpluses (now (shares .entry))) run number (now (line .entry)) given (askedOf (now (line .entry))) ≡ standing r (keeping gaps surpluses (now (shares .exit)))) ⌝ }
     {
         let asked = read_asked(line);
@@ -352,15 +346,7 @@ impl Checker {
         match stage {
             Stage::Empty => print_refusal(out, number, Refusal::NoEnd),
             Stage::Open => print_refusal(out, number, Refusal::NoEnd),
-            Stage::Ended(given) => Checker::ruled(
-                run,
-                number,
-                given,
-                gaps,
-                surpluses,
-                shares,
-                out,
-            ),
+            Stage::Ended(given) => Checker::ruled(run, number, given, gaps, surpluses, shares, out),
             Stage::Stopped(fault) => print_fault(fault, out),
         }
     }

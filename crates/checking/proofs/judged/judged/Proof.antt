@@ -59,10 +59,11 @@ loop-less c = omega arith
 loop-again : tie.Need-loop-again Inv-loop μ-loop
 loop-again c =
     let a = c .before .before .before .before .before .before .before .args in
-    let l = c .before .before .before .before .before .loop in
-    (omega arith,
-    l .inv .1 ∙ both-hold (a .books) (keeping (now (a .gaps)) (now (a .surpluses)) (now (a .shares))) (a .quarters) (l .quarter) (c .before .before .before .before .loop-test .taken)
-    (sym (c .before .before .before .positive-holds .ensures) ∙ not-false _ (c .before .before .if1 .left)) (sym (c .before .negative-holds .ensures) ∙ not-false _ (c .if2 .left)))
+    let l = c .before .before .before .before .before .loop in (
+      omega arith,
+      l .inv .1 ∙ both-hold (a .books) (keeping (now (a .gaps)) (now (a .surpluses)) (now (a .shares))) (a .quarters) (l .quarter) (c .before .before .before .before .loop-test .taken)
+          (sym (c .before .before .before .positive-holds .ensures) ∙ not-false _ (c .before .before .if1 .left)) (sym (c .before .negative-holds .ensures) ∙ not-false _ (c .if2 .left)),
+    )
 
 -- src/judged.rt:119:1
 returns-3 : tie.Need-returns-3 Inv-loop μ-loop

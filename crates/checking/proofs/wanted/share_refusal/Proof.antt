@@ -41,9 +41,10 @@ unfolding shareGround wantedIn heldOf leastOf
 returns-3 c =
     let told = sym (c .before .is-wanted .ensures) ∙ not-false _ (c .if2 .left) in
     let day : c .before .before .before .before .before .args .quarters ≤ 255 = omega (arith, c .before .before .before .before .before .fits .quarters) in
-    let few : perQuarter (c .before .before .before .before .before .args .books) ≤ 64 = omega arith in
-    (rw (sym (c .before .before .before .well-formed .ensures) ∙ not-false _ (c .before .before .if1 .left), told),
-    λ z. omega (arith, among (c .before .before .before .before .before .args .books) (c .before .before .before .before .before .args .quarters) (c .before .before .before .before .before .args .given) (c .before .before .before .before .before .args .share) _ told, mul-le-mul day few))
+    let few : perQuarter (c .before .before .before .before .before .args .books) ≤ 64 = omega arith in (
+      rw (sym (c .before .before .before .well-formed .ensures) ∙ not-false _ (c .before .before .if1 .left), told),
+      λ z. omega (arith, among (c .before .before .before .before .before .args .books) (c .before .before .before .before .before .args .quarters) (c .before .before .before .before .before .args .given) (c .before .before .before .before .before .args .share) _ told, mul-le-mul day few),
+    )
 
 pub share-refusal-spec : {M : Type 1} → statement M
 share-refusal-spec =

@@ -1,3 +1,4 @@
+use Rattle.checking.specs.Checker.{finishText}
 use borrow.Author.Needs.{needs}
 use Rattle.checking.proofs.checker.Checker.finish.Statement.{statement}
 use Rattle.checking.proofs.checker.Checker.finish.Tie as tie
@@ -50,7 +51,10 @@ same-length c = search needs
 
 -- src/checker.rt:339:5
 returns : tie.Need-returns
-returns c = ?
+unfolding finishText
+returns c =
+    let p = c .before .before .print-refusal .ensures in
+    rw (c .before .before .before .before .enum-told .given .1, ← c .before .before .before .before .before .before .before .wrapping-add-u64 .ensures) (record { answer = p .0; bytes = p .1 .0; room = p .1 .1 })
 
 -- src/checker.rt:339:5
 same-length-2 : tie.Need-same-length-2
@@ -58,7 +62,10 @@ same-length-2 c = search needs
 
 -- src/checker.rt:339:5
 returns-2 : tie.Need-returns-2
-returns-2 c = ?
+unfolding finishText
+returns-2 c =
+    let p = c .before .before .print-refusal2 .ensures in
+    rw (c .before .before .before .before .enum-told2 .given .1, ← c .before .before .before .before .before .before .before .wrapping-add-u64 .ensures) (record { answer = p .0; bytes = p .1 .0; room = p .1 .1 })
 
 -- src/checker.rt:339:5
 same-length-3 : tie.Need-same-length-3
@@ -66,7 +73,8 @@ same-length-3 c = search needs
 
 -- src/checker.rt:339:5
 returns-3 : tie.Need-returns-3
-returns-3 c = ?
+unfolding finishText
+returns-3 c = rw (c .before .before .before .before .before .stage .given .1, ← c .before .before .before .before .before .before .before .before .wrapping-add-u64 .ensures) (c .before .before .ruled .ensures)
 
 -- src/checker.rt:339:5
 same-length-4 : tie.Need-same-length-4
@@ -74,7 +82,8 @@ same-length-4 c = search needs
 
 -- src/checker.rt:339:5
 returns-4 : tie.Need-returns-4
-returns-4 c = ?
+unfolding finishText
+returns-4 c = rw (c .before .before .before .before .before .stage2 .given .1) (c .before .before .print-fault .ensures)
 
 pub finish-spec : {M : Type 1} → statement M
 finish-spec =

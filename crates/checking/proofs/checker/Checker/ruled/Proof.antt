@@ -1,3 +1,11 @@
+use Rattle.checking.specs.Checker.{ruledText}
+use Rattle.checking.specs.Judged.{judgedOf}
+use Rattle.checking.specs.Wanted.{wantedIn}
+use Rattle.checking.specs.Kept.{keeping}
+use Rattle.settlement.specs.Run.{endedOf}
+use borrow.Author.Tests.{eq-eqb, ne-eqb}
+use denote.Ref.{now}
+use mathlib.Core.Path.{_≡_, _∙_}
 use borrow.Author.Needs.{needs}
 use Rattle.checking.proofs.checker.Checker.ruled.Statement.{statement}
 use Rattle.checking.proofs.checker.Checker.ruled.Tie as tie
@@ -32,7 +40,12 @@ same-length c = search needs
 
 -- src/checker.rt:333:13
 returns : tie.Need-returns
-returns c = ?
+unfolding ruledText
+returns c =
+    let a = c .before .before .before .before .before .before .before .before .before .before .args in
+    let p = c .before .before .print-refusal .ensures in
+    let same : c .before .before .before .before .before .wanted .result ≡ wantedIn (a .run .books) (endedOf (a .run) .quarters) = c .before .before .before .before .before .wanted .ensures ∙ rw (c .before .before .before .before .before .before .before .books .ensures, c .before .before .before .before .before .before .end .ensures) in
+    rw (← same, ne-eqb _ _ (c .before .before .before .before .if1 .taken)) (record { answer = p .0; bytes = p .1 .0; room = p .1 .1 })
 
 -- src/checker.rt:335:28
 judged-requires : tie.Need-judged-requires
@@ -48,7 +61,14 @@ same-length-2 c = search needs
 
 -- src/checker.rt:319:5
 returns-2 : tie.Need-returns-2
-returns-2 c = ?
+unfolding ruledText
+returns-2 c =
+    let a = c .before .before .before .before .before .before .before .before .before .before .before .args in
+    let p = c .before .before .print-verdict .ensures in
+    let same : c .before .before .before .before .before .before .wanted .result ≡ wantedIn (a .run .books) (endedOf (a .run) .quarters) = c .before .before .before .before .before .before .wanted .ensures ∙ rw (c .before .before .before .before .before .before .before .before .books .ensures, c .before .before .before .before .before .before .before .end .ensures) in
+    let verdict : c .before .before .before .judged .result ≡ judgedOf (a .run .books) (keeping (now (a .gaps)) (now (a .surpluses)) (now (a .shares))) (endedOf (a .run) .quarters) =
+    c .before .before .before .judged .ensures ∙ rw (c .before .before .before .before .before .before .before .before .books .ensures, c .before .before .before .before .before .before .before .end .ensures) in
+    rw (← same, eq-eqb _ _ (c .before .before .before .before .before .if1 .left), ← verdict) (record { answer = p .0; bytes = p .1 .0; room = p .1 .1 })
 
 pub ruled-spec : {M : Type 1} → statement M
 ruled-spec =
