@@ -8,8 +8,7 @@ use native.Mathlib.Decide.{decLe}
 use lib.ListN.{length}
 use borrow.Author.Tests.{lt-ltb}
 use Rattle.lines.specs.Lines.{linesOf, keptOf, eachLine}
-use Rattle.lines.specs.Handing.{Progress, atStart, heldBy, afterBytes}
-use Rattle.lines.specs.declared.Gatherer.{Gatherer}
+use Rattle.lines.specs.Handing.{Progress, afterBytes}
 use Rattle.lines.proofs.Held.{kept-whole, kept-overlong}
 use Rattle.lines.proofs.WholeInput.{kept-lines, lines-counted}
 use Rattle.reading.specs.Share.{askedOf}
@@ -17,6 +16,7 @@ use Rattle.checking.specs.Kept.{Kept}
 use Rattle.checking.specs.declared.checker.Stage.{Stage}
 use Rattle.checking.specs.declared.checker.Stage.the-variants.{Empty, Open, Ended, Stopped}
 use Rattle.checking.specs.Checker.{Standing, standing, emptyChecker, turnAt, lineTurn, finishText}
+use Rattle.sharefeed.specs.Reader.{emptyReader, progress, handled, feedOf, printedFor}
 use Rattle.verdict.specs.Checked.{checked}
 use Rattle.verdict.proofs.Gaps.{Room}
 use Rattle.verdict.proofs.Program.{checked-is}
@@ -56,39 +56,41 @@ lines-kept (line ∷ lines) s n = rw (line-kept s (n + 1) line) (lines-kept line
 
 -- ---- byte by byte, and so block by block
 
--- a complete line, as it was gathered
-abbrev pub handle : Standing → Gatherer → Standing
-handle s g = lineTurn s (g .count) (heldBy g)
-
 -- where a reader stands after some blocks
 unfoldable pub afterBlocks : Progress Standing → List (List ℕ) → Progress Standing
 afterBlocks p [] = p
-afterBlocks p (block ∷ blocks) = afterBlocks (afterBytes handle p block) blocks
+afterBlocks p (block ∷ blocks) = afterBlocks (feedOf p block) blocks
 
 unfoldable pub joined : List (List ℕ) → List ℕ
 joined [] = []
 joined (block ∷ blocks) = block ++ joined blocks
 
-bytes-join : (a b : List ℕ) (p : Progress Standing) → afterBytes handle p (a ++ b) ≡ afterBytes handle (afterBytes handle p a) b
+bytes-join : (a b : List ℕ) (p : Progress Standing) → feedOf p (a ++ b) ≡ feedOf (feedOf p a) b
 unfolding afterBytes
 bytes-join [] b p = refl
 bytes-join (byte ∷ a) b p = bytes-join a b _
 
-blocks-join : (blocks : List (List ℕ)) (p : Progress Standing) → afterBlocks p blocks ≡ afterBytes handle p (joined blocks)
+blocks-join : (blocks : List (List ℕ)) (p : Progress Standing) → afterBlocks p blocks ≡ feedOf p (joined blocks)
 unfolding afterBlocks joined afterBytes
 blocks-join [] p = refl
-blocks-join (block ∷ blocks) p = blocks-join blocks (afterBytes handle p block) ∙ sym (bytes-join block (joined blocks) p)
+blocks-join (block ∷ blocks) p = blocks-join blocks (feedOf p block) ∙ sym (bytes-join block (joined blocks) p)
+
+printed-checked : (kept : Kept) (input : List ℕ) → Room kept → length (linesOf input) + 1 < 2 ^ 64 → printedFor kept input ≡ checked input
+unfolding printedFor emptyReader
+printed-checked kept input room h =
+    rw (
+      kept-lines lineTurn input (standing emptyChecker kept) (omega arith),
+      lines-counted handled input (standing emptyChecker kept) (omega arith),
+      lines-kept (linesOf input) (standing emptyChecker kept) 0,
+    )
+    (checked-is kept input room h)
 
 -- what is printed at the input's end
 abbrev pub endText : Progress Standing → List ℕ
 endText p = finishText (p .state) (p .gatherer .count)
 
-bytes-checked : (kept : Kept) (input : List ℕ) → Room kept → length (linesOf input) + 1 < 2 ^ 64 → endText (afterBytes handle (atStart (standing emptyChecker kept)) input) ≡ checked input
-bytes-checked kept input room h =
-    rw (kept-lines lineTurn input (standing emptyChecker kept) (omega arith), lines-counted handle input (standing emptyChecker kept) (omega arith), lines-kept (linesOf input) (standing emptyChecker kept) 0)
-    (checked-is kept input room h)
-
 -- IN ANY BLOCKS, WHAT IS PRINTED IS WHAT THE INPUT MEANS
 pub fed-checked : (kept : Kept) (blocks : List (List ℕ)) → Room kept → length (linesOf (joined blocks)) + 1 < 2 ^ 64
-    → endText (afterBlocks (atStart (standing emptyChecker kept)) blocks) ≡ checked (joined blocks)
-fed-checked kept blocks room h = ap endText (blocks-join blocks (atStart (standing emptyChecker kept))) ∙ bytes-checked kept (joined blocks) room h
+    → endText (afterBlocks (progress emptyReader kept) blocks) ≡ checked (joined blocks)
+unfolding printedFor
+fed-checked kept blocks room h = ap endText (blocks-join blocks (progress emptyReader kept)) ∙ printed-checked kept (joined blocks) room h
