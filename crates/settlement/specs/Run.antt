@@ -71,6 +71,10 @@ withBounds run bounds =
 unfoldable pub withBoundsOf : Run → Bounds → Answer
 withBoundsOf run bounds = answerOf (boundsGround run bounds) (withBounds run bounds) run
 
+-- it was begun, and setpoints of it are still to come
+unfoldable pub lacksSetpoints : Run → Bool
+lacksSetpoints run = not (eqb (run .load .left) 0)
+
 -- then its past setpoints, oldest first: the channel recalls each, and holds the block's bounds
 unfoldable pub setpointGround : Run → ℤ → Refusal
 setpointGround run s = setpointRefusal (untouched run) (run .load) s

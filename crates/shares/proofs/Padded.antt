@@ -71,14 +71,14 @@ blank-at (suc n) zero zero = refl
 blank-at (suc n) zero (suc i) = blank-at n zero i
 blank-at (suc n) (suc k) i = blank-at n k i
 
-zeros-length : (k : ℕ) → length (zeros k) ≡ 32 - k
+pub zeros-length : (k : ℕ) → length (zeros k) ≡ 32 - k
 zeros-length k = length-drop k (replicate {A = ℕ} 32 0)
 
 pub sum-padded : (l : List ℕ) (k : ℕ) → sumOf (l ++ zeros k) ≡ sumOf l
 sum-padded l k = over-append (λ (x : ℕ). x) l (zeros k) ∙ rw (sum-zeros 32 k) (add-zero (sumOf l))
 
 -- a list with zeros after it reads the same
-past-end : (l : List ℕ) (k i : ℕ) → getD (l ++ zeros k) i 0 ≡ getD l i 0
+pub past-end : (l : List ℕ) (k i : ℕ) → getD (l ++ zeros k) i 0 ≡ getD l i 0
 past-end [] k i = blank-at 32 k i
 past-end (x ∷ l) k zero = refl
 past-end (x ∷ l) k (suc i) = past-end l k i
@@ -133,10 +133,10 @@ shares-zeros surplus gaps k i h = rw (sum-padded gaps k) (go (eqb (sumOf gaps) 0
 -- ---- the shares of any gaps, up to 32 of them, are fair
 
 module _ (surplus : ℕ) (gaps : List ℕ) (few : length gaps ≤ 32) where
-  abbrev padded : List ℕ
+  abbrev pub padded : List ℕ
   padded = gaps ++ zeros (length gaps)
 
-  padded-32 : length padded ≡ 32
+  pub padded-32 : length padded ≡ 32
   padded-32 = omega (arith, length-append gaps (zeros (length gaps)), zeros-length (length gaps))
 
   padded-fair : FairShares surplus padded (sharesOf surplus padded)
@@ -153,7 +153,7 @@ module _ (surplus : ℕ) (gaps : List ℕ) (few : length gaps ≤ 32) where
             omega (arith, padded-fair .in-gap k (omega (arith, padded-32)), past-end gaps (length gaps) k, past-end (sharesOf surplus gaps) (length gaps) k)
       ]
 
-  shares-parts : sharesOf surplus padded ≡ sharesOf surplus gaps ++ zeros (length gaps)
+  pub shares-parts : sharesOf surplus padded ≡ sharesOf surplus gaps ++ zeros (length gaps)
   shares-parts =
       let n : length (sharesOf surplus padded) ≡ 32 = shares-length surplus padded ∙ padded-32 in
       let m : length (sharesOf surplus gaps ++ zeros (length gaps)) ≡ 32 = length-append (sharesOf surplus gaps) (zeros (length gaps))

@@ -1,3 +1,4 @@
 pub mod Sheet
 pub mod Buffer
 pub mod Putting
+pub mod Verdict

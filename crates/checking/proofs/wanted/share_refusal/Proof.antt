@@ -1,0 +1,51 @@
+use Rattle.arithmetic.specs.Whole.{leastOf}
+use Rattle.contracts.specs.Book.{heldOf}
+use Rattle.checking.proofs.WantedLaws.{among}
+use Rattle.checking.specs.Wanted.{wantedIn, perQuarter, shareGround}
+use Rattle.vocabulary.specs.declared.direction.Direction.the-variants.{Positive, Negative}
+use mathlib.Core.Path.{_≡_, sym, _∙_}
+use borrow.Author.Tests.{not-true, not-false}
+use Prim.Native.Nat.{_+_, _≤_, _<_}
+use native.Mathlib.Nat.{mul-le-mul}
+use native.Mathlib.Omega.{arith}
+use borrow.Author.Needs.{needs}
+use Rattle.checking.proofs.wanted.share_refusal.Statement.{statement}
+use Rattle.checking.proofs.wanted.share_refusal.Tie as tie
+use Rattle.checking.proofs.wanted.share_refusal.Reads as reads
+use Rattle.checking.proofs.wanted.share_refusal.Lts as lts
+use Rattle.checking.proofs.wanted.is_wanted.Reads as is-wanted-reads
+use Rattle.contracts.proofs.identifier.well_formed.Reads as well-formed-reads
+
+-- src/wanted.rt:114:9
+well-formed-requires : tie.Need-well-formed-requires
+well-formed-requires c κs = search needs
+
+-- src/wanted.rt:115:9
+returns : tie.Need-returns
+unfolding shareGround
+returns c = (rw (sym (c .before .well-formed .ensures) ∙ not-true _ (c .if1 .taken)), λ z. absurd (omega (arith, z)))
+
+-- src/wanted.rt:117:9
+is-wanted-requires : tie.Need-is-wanted-requires
+is-wanted-requires c κs = search needs
+
+-- src/wanted.rt:118:9
+returns-2 : tie.Need-returns-2
+unfolding shareGround
+returns-2 c =
+    (rw (sym (c .before .before .before .well-formed .ensures) ∙ not-false _ (c .before .before .if1 .left), sym (c .before .is-wanted .ensures) ∙ not-true _ (c .if2 .taken)), λ z. absurd (omega (arith, z)))
+
+-- src/wanted.rt:105:1
+returns-3 : tie.Need-returns-3
+unfolding shareGround wantedIn heldOf leastOf
+returns-3 c =
+    let told = sym (c .before .is-wanted .ensures) ∙ not-false _ (c .if2 .left) in
+    let day : c .before .before .before .before .before .args .quarters ≤ 255 = omega (arith, c .before .before .before .before .before .fits .quarters) in
+    let few : perQuarter (c .before .before .before .before .before .args .books) ≤ 64 = omega arith in (
+      rw (sym (c .before .before .before .well-formed .ensures) ∙ not-false _ (c .before .before .if1 .left), told),
+      λ z. omega (arith, among (c .before .before .before .before .before .args .books) (c .before .before .before .before .before .args .quarters) (c .before .before .before .before .before .args .given) (c .before .before .before .before .before .args .share) _ told, mul-le-mul day few),
+    )
+
+pub share-refusal-spec : {M : Type 1} → statement M
+share-refusal-spec =
+    tie.close (tie.spec well-formed-requires returns is-wanted-requires returns-2 returns-3)

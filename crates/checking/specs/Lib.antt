@@ -1,0 +1,4 @@
+pub mod Kept
+pub mod Wanted
+pub mod Judged
+pub mod Checker
