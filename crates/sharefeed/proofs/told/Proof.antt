@@ -1,54 +1,41 @@
+-- `sharefeed::told` meets its contract. Assumes nothing.
 use lib.Seq.{length-take-le, take-all}
 use native.Mathlib.Omega.{arith}
 use mathlib.Core.Path.{sym}
 use borrow.Author.Needs.{needs}
 use Rattle.sharefeed.proofs.told.Statement.{statement}
 use Rattle.sharefeed.proofs.told.Tie as tie
-use Rattle.sharefeed.proofs.told.Reads as reads
-use Rattle.sharefeed.proofs.told.Lts as lts
-use Rattle.checking.proofs.checker.Checker.line.Reads as line-reads
 
--- src/lib.rt:38:37
 slice-aggregate-line : tie.Need-slice-aggregate-line
 slice-aggregate-line c = sym (length-take-le _ _ (omega arith))
 
--- src/lib.rt:38:9
 line-requires : tie.Need-line-requires
 line-requires c κs = search needs
 
--- src/lib.rt:38:9
 same-length : tie.Need-same-length
 same-length c = search needs
 
--- src/lib.rt:38:9
 same-length-2 : tie.Need-same-length-2
 same-length-2 c = search needs
 
--- src/lib.rt:38:9
 same-length-3 : tie.Need-same-length-3
 same-length-3 c = search needs
 
--- src/lib.rt:38:9
 returns : tie.Need-returns
 returns c = search needs
 
--- src/lib.rt:40:5
 line-requires-2 : tie.Need-line-requires-2
 line-requires-2 c κs = search needs
 
--- src/lib.rt:26:1
 same-length-4 : tie.Need-same-length-4
 same-length-4 c = search needs
 
--- src/lib.rt:26:1
 same-length-5 : tie.Need-same-length-5
 same-length-5 c = search needs
 
--- src/lib.rt:26:1
 same-length-6 : tie.Need-same-length-6
 same-length-6 c = search needs
 
--- src/lib.rt:26:1
 returns-2 : tie.Need-returns-2
 returns-2 c = rw (take-all _ _ (c .before .before .before .before .before .before .before .before .if1 .left)) (c .before .before .before .before .line2 .ensures)
 

@@ -1,3 +1,4 @@
+-- `sharefeed::Reader::feed` meets its contract. The invariant: what is left of the block leads from here to where the whole block leads from the start. Assumes nothing.
 use Rattle.sharefeed.proofs.Stepping.{at-end}
 use Rattle.sharefeed.specs.Reader.{progress, feedOf}
 use Rattle.checking.specs.Kept.{keeping}
@@ -10,9 +11,6 @@ use borrow.Author.Needs.{needs}
 use native.Mathlib.Omega.{arith}
 use Rattle.sharefeed.proofs.Reader.feed.Statement.{statement}
 use Rattle.sharefeed.proofs.Reader.feed.Tie as tie
-use Rattle.sharefeed.proofs.Reader.feed.Reads as reads
-use Rattle.sharefeed.proofs.Reader.feed.Lts as lts
-use Rattle.sharefeed.proofs.Reader.step.Reads as step-reads
 
 abbrev Inv-loop : tie.InvT-loop
 Inv-loop block gaps₀ surpluses₀ shares₀ reader₀ i₀ gaps surpluses shares reader i =
@@ -22,42 +20,33 @@ Inv-loop block gaps₀ surpluses₀ shares₀ reader₀ i₀ gaps surpluses shar
 abbrev μ-loop : tie.MeasureT-loop
 μ-loop block gaps₀ surpluses₀ shares₀ reader₀ i₀ gaps surpluses shares reader i = length block - i
 
--- src/lib.rt:130:9
 loop-holds : tie.Need-loop-holds Inv-loop μ-loop
 loop-holds c = (omega arith, refl, refl, refl, refl)
 
--- src/lib.rt:131:17
 step-requires : tie.Need-step-requires Inv-loop μ-loop
 step-requires c κs = c .before .before .before .loop-test .taken
 
--- src/lib.rt:134:13
 add-i : tie.Need-add-i Inv-loop μ-loop
 add-i c = omega (arith, c .before .before .before .before .before .before .step .ensures .within, c .before .before .before .before .before .before .before .before .before .before .before .before .before .before .good)
 
--- src/lib.rt:130:9
 loop-less : tie.Need-loop-less Inv-loop μ-loop
 loop-less c = omega (arith, c .before .before .before .before .before .before .step .ensures .some, c .before .before .before .before .before .before .step .ensures .within)
 
--- src/lib.rt:130:9
 loop-again : tie.Need-loop-again Inv-loop μ-loop
 loop-again c =
     let inv = c .before .before .before .before .before .before .before .before .before .before .before .loop .inv in
     let step = c .before .before .before .before .before .before .step .ensures in
     (omega (arith, step .within), inv .1 ∙ step .is, search (needs, inv .2), search (needs, inv .3), search (needs, inv .4))
 
--- src/lib.rt:119:5
 same-length : tie.Need-same-length Inv-loop μ-loop
 same-length c = c .before .loop .inv .2
 
--- src/lib.rt:119:5
 same-length-2 : tie.Need-same-length-2 Inv-loop μ-loop
 same-length-2 c = c .before .loop .inv .3
 
--- src/lib.rt:119:5
 same-length-3 : tie.Need-same-length-3 Inv-loop μ-loop
 same-length-3 c = c .before .loop .inv .4
 
--- src/lib.rt:119:5
 returns : tie.Need-returns Inv-loop μ-loop
 returns c =
     let inv = c .before .loop .inv in

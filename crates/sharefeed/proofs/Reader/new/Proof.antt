@@ -1,21 +1,17 @@
+-- `sharefeed::Reader::new` meets its contract. Assumes nothing.
 use Rattle.sharefeed.specs.Reader.{emptyReader}
 use borrow.Author.Needs.{needs}
 use Rattle.sharefeed.proofs.Reader.new.Statement.{statement}
 use Rattle.sharefeed.proofs.Reader.new.Tie as tie
-use Rattle.sharefeed.proofs.Reader.new.Reads as reads
-use Rattle.sharefeed.proofs.Reader.new.Lts as lts
 use Rattle.checking.proofs.checker.Checker.new.Reads as checker-Checker-new-reads
 use Rattle.lines.proofs.Gatherer.new.Reads as Gatherer-new-reads
 
--- src/lib.rt:70:23
 new-requires : tie.Need-new-requires
 new-requires c κs = search needs
 
--- src/lib.rt:71:22
 new-requires-2 : tie.Need-new-requires-2
 new-requires-2 c κs = search needs
 
--- src/lib.rt:66:5
 returns : tie.Need-returns
 unfolding emptyReader
 returns c = rw (c .before .new .ensures, c .new2 .ensures)
