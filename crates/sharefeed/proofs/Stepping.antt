@@ -7,7 +7,7 @@ use mathlib.Core.List.{List, [], _∷_}
 use native.Mathlib.Omega.{arith}
 use native.Mathlib.Decide.{ℕ-discrete}
 use native.Mathlib.Numerals.{one-add}
-use lib.ListN.{length, take, drop, length-drop}
+use lib.ListN.{length, take, drop, length-drop, drop-of-length-le}
 use lib.Seq.{drop-drop}
 use Rattle.fields.proofs.DigitLaws.{to-end}
 use Rattle.lines.specs.Gathering.{freshOf, longerBy, further, gatheredOf}
@@ -38,6 +38,11 @@ module _ {S : Type 0} (handle : S → Gatherer → S) where
             ∙ sym (ap (λ (r : Gathered). on s (drop (r .used) (byte ∷ bytes)) (r .gatherer) (r .complete)) (goes-on g byte bytes other))
       ]
 
+-- after the last byte nothing changes
+pub at-end : (g : Gatherer) (s : Standing) (rest : List ℕ) → rest ≡ [] → feedOf (record { gatherer = g; state = s }) rest ≡ record { gatherer = g; state = s }
+unfolding afterBytes
+at-end g s rest e = rw e
+
 module _ (g : Gatherer) (s : Standing) (block : List ℕ) (at : ℕ) (part : Gathered) (h : at < length block)
     (gathered : part ≡ gatheredOf g (take (length block - at) (drop at block))) where
   is-gathered : part ≡ gatheredOf g (drop at block)
@@ -65,10 +70,7 @@ module _ (g : Gatherer) (s : Standing) (block : List ℕ) (at : ℕ) (part : Gat
   rest-of-block e =
       let u : part .used ≡ length (drop at block) = used-is ∙ used-all (drop at block) g (sym (ap (λ (r : Gathered). r .complete) is-gathered) ∙ e) in
       let w : length block ≤ at + part .used = omega (arith, left) in
-      record { some = some-used; within = used-in; is = read ∙ ap (on handled s (drop (part .used) (drop at block)) (part .gatherer)) e ∙ sym (at-end (part .gatherer) s block (at + part .used) w) }
-    where
-      at-end : (g : Gatherer) (s : Standing) (block : List ℕ) (n : ℕ) → length block ≤ n → feedOf (record { gatherer = g; state = s }) (drop n block) ≡ record { gatherer = g; state = s }
-      at-end g s block n w = ?
+      record { some = some-used; within = used-in; is = read ∙ ap (on handled s (drop (part .used) (drop at block)) (part .gatherer)) e ∙ sym (at-end (part .gatherer) s (drop (at + part .used) block) (drop-of-length-le block w)) }
 
   -- the line at hand was complete, and the checker took it
   pub line-of-block : {next : Standing} {fresh : Gatherer} → part .complete ≡ true → fresh ≡ freshOf (part .gatherer) → lineTurn s (part .gatherer .count) (heldBy (part .gatherer)) ≡ next

@@ -1,3 +1,4 @@
+-- `checking::judged::energies` meets its contract. Assumes nothing.
 use Rattle.series.proofs.Scanned.{Mapped, mapped-none, mapped-more, mapped-whole}
 use Rattle.arithmetic.specs.Energy.{kwh}
 use lib.ListN.{replicate}
@@ -5,8 +6,6 @@ use Prim.Native.Nat.{_-_}
 use native.Mathlib.Omega.{arith}
 use Rattle.checking.proofs.judged.energies.Statement.{statement}
 use Rattle.checking.proofs.judged.energies.Tie as tie
-use Rattle.checking.proofs.judged.energies.Reads as reads
-use Rattle.checking.proofs.judged.energies.Lts as lts
 
 abbrev Inv-loop : tie.InvT-loop
 Inv-loop amounts out₀ k₀ out k = Mapped kwh amounts out₀ out k
@@ -14,42 +13,33 @@ Inv-loop amounts out₀ k₀ out k = Mapped kwh amounts out₀ out k
 abbrev μ-loop : tie.MeasureT-loop
 μ-loop amounts out₀ k₀ out k = 32 - k
 
--- src/judged.rt:45:5
 loop-holds : tie.Need-loop-holds Inv-loop μ-loop
 loop-holds c = mapped-none kwh (c .args .t1) (replicate 32 (kwh 0))
 
--- src/judged.rt:46:22
 mul-t7 : tie.Need-mul-t7 Inv-loop μ-loop
 mul-t7 c = omega arith
 
--- src/judged.rt:46:22
 array-read-t10 : tie.Need-array-read-t10 Inv-loop μ-loop
 array-read-t10 c = omega arith
 
--- src/judged.rt:46:9
 mul-out : tie.Need-mul-out Inv-loop μ-loop
 mul-out c = omega arith
 
--- src/judged.rt:46:9
 array-set-from-out : tie.Need-array-set-from-out Inv-loop μ-loop
 array-set-from-out c = omega arith
 
--- src/judged.rt:47:9
 add-k : tie.Need-add-k Inv-loop μ-loop
 add-k c = omega arith
 
--- src/judged.rt:45:5
 loop-less : tie.Need-loop-less Inv-loop μ-loop
 loop-less c = omega arith
 
--- src/judged.rt:45:5
 loop-again : tie.Need-loop-again Inv-loop μ-loop
 loop-again c =
     let s = c .before .before in
     let l = c .before .loop in
     mapped-more kwh (s .args .t1) (replicate 32 (kwh 0)) (l .out) (l .k) 0 (omega (arith, s .good)) (omega (arith, s .good)) (l .inv)
 
--- src/judged.rt:40:1
 returns : tie.Need-returns Inv-loop μ-loop
 returns c =
     let s = c .before .before in

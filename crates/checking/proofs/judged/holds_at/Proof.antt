@@ -1,38 +1,26 @@
+-- `checking::judged::holds_at` meets its contract. Assumes nothing.
 use Rattle.checking.proofs.JudgedLaws.{kwh-amounts}
 use Rattle.checking.specs.Judged.{holdsAt}
 use mathlib.Core.Path.{_∙_}
 use borrow.Author.Needs.{needs}
 use Rattle.checking.proofs.judged.holds_at.Statement.{statement}
 use Rattle.checking.proofs.judged.holds_at.Tie as tie
-use Rattle.checking.proofs.judged.holds_at.Reads as reads
-use Rattle.checking.proofs.judged.holds_at.Lts as lts
-use Rattle.checking.proofs.judged.energies.Reads as energies-reads
-use Rattle.checking.proofs.judged.gaps_at.Reads as gaps-at-reads
-use Rattle.checking.proofs.judged.shares_from.Reads as shares-from-reads
-use Rattle.checking.proofs.judged.surplus_at.Reads as surplus-at-reads
-use Rattle.shares.proofs.acceptable.acceptable.Reads as acceptable-reads
 
--- src/judged.rt:81:27
 gaps-at-requires : tie.Need-gaps-at-requires
 gaps-at-requires c κs = search needs
 
--- src/judged.rt:81:9
 energies-requires : tie.Need-energies-requires
 energies-requires c κs = search needs
 
--- src/judged.rt:82:9
 surplus-at-requires : tie.Need-surplus-at-requires
 surplus-at-requires c κs = search needs
 
--- src/judged.rt:83:33
 shares-from-requires : tie.Need-shares-from-requires
 shares-from-requires c κs = search needs
 
--- src/judged.rt:83:5
 acceptable-requires : tie.Need-acceptable-requires
 acceptable-requires c κs = search needs
 
--- src/judged.rt:70:1
 returns : tie.Need-returns
 unfolding holdsAt
 returns c =

@@ -1,3 +1,4 @@
+-- `checking::judged::judged` meets its contract. The invariant: the verdict is that on the quarter hours that are left. Assumes nothing.
 use Rattle.checking.proofs.JudgedLaws.{positive-fails, negative-fails, both-hold, none-left}
 use Rattle.checking.specs.Judged.{verdictFrom, judgedOf}
 use Rattle.checking.specs.Kept.{keeping}
@@ -8,10 +9,6 @@ use Prim.Native.Nat.{_-_, _≤_}
 use native.Mathlib.Omega.{arith}
 use Rattle.checking.proofs.judged.judged.Statement.{statement}
 use Rattle.checking.proofs.judged.judged.Tie as tie
-use Rattle.checking.proofs.judged.judged.Reads as reads
-use Rattle.checking.proofs.judged.judged.Lts as lts
-use Rattle.checking.proofs.judged.negative_holds.Reads as negative-holds-reads
-use Rattle.checking.proofs.judged.positive_holds.Reads as positive-holds-reads
 
 abbrev Inv-loop : tie.InvT-loop
 Inv-loop books quarters gaps surpluses shares quarter₀ quarter = (quarter ≤ quarters) × (judgedOf books (keeping gaps surpluses shares) quarters ≡ verdictFrom books (keeping gaps surpluses shares) quarters quarter (quarters - quarter))
@@ -19,15 +16,12 @@ Inv-loop books quarters gaps surpluses shares quarter₀ quarter = (quarter ≤ 
 abbrev μ-loop : tie.MeasureT-loop
 μ-loop books quarters gaps surpluses shares quarter₀ quarter = quarters - quarter
 
--- src/judged.rt:129:5
 loop-holds : tie.Need-loop-holds Inv-loop μ-loop
 loop-holds c = let e : c .before .args .quarters - 0 ≡ c .before .args .quarters = omega arith in (omega arith, rw e)
 
--- src/judged.rt:130:13
 positive-holds-requires : tie.Need-positive-holds-requires Inv-loop μ-loop
 positive-holds-requires c κs = tt
 
--- src/judged.rt:131:13
 returns : tie.Need-returns Inv-loop μ-loop
 returns c =
     let a = c .before .before .before .before .before .args in
@@ -35,11 +29,9 @@ returns c =
     sym (l .inv .1 ∙ positive-fails (a .books) (keeping (now (a .gaps)) (now (a .surpluses)) (now (a .shares))) (a .quarters) (l .quarter) (c .before .before .loop-test .taken)
     (sym (c .before .positive-holds .ensures) ∙ not-true _ (c .if1 .taken)))
 
--- src/judged.rt:136:13
 negative-holds-requires : tie.Need-negative-holds-requires Inv-loop μ-loop
 negative-holds-requires c κs = tt
 
--- src/judged.rt:137:13
 returns-2 : tie.Need-returns-2 Inv-loop μ-loop
 returns-2 c =
     let a = c .before .before .before .before .before .before .before .args in
@@ -47,15 +39,12 @@ returns-2 c =
     sym (l .inv .1 ∙ negative-fails (a .books) (keeping (now (a .gaps)) (now (a .surpluses)) (now (a .shares))) (a .quarters) (l .quarter) (c .before .before .before .before .loop-test .taken)
     (sym (c .before .before .before .positive-holds .ensures) ∙ not-false _ (c .before .before .if1 .left)) (sym (c .before .negative-holds .ensures) ∙ not-true _ (c .if2 .taken)))
 
--- src/judged.rt:142:9
 add-quarter : tie.Need-add-quarter Inv-loop μ-loop
 add-quarter c = omega (arith, c .before .before .before .before .loop-test .taken, c .before .before .before .before .before .before .before .fits .quarters)
 
--- src/judged.rt:129:5
 loop-less : tie.Need-loop-less Inv-loop μ-loop
 loop-less c = omega arith
 
--- src/judged.rt:129:5
 loop-again : tie.Need-loop-again Inv-loop μ-loop
 loop-again c =
     let a = c .before .before .before .before .before .before .before .args in
@@ -65,7 +54,6 @@ loop-again c =
           (sym (c .before .before .before .positive-holds .ensures) ∙ not-false _ (c .before .before .if1 .left)) (sym (c .before .negative-holds .ensures) ∙ not-false _ (c .if2 .left)),
     )
 
--- src/judged.rt:119:1
 returns-3 : tie.Need-returns-3 Inv-loop μ-loop
 returns-3 c =
     let a = c .before .before .before .args in

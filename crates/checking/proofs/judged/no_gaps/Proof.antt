@@ -1,11 +1,9 @@
+-- `checking::judged::no_gaps` meets its contract. Assumes nothing.
 use Rattle.checking.specs.Kept.{noGaps}
 use mathlib.Core.Path.{refl}
 use Rattle.checking.proofs.judged.no_gaps.Statement.{statement}
 use Rattle.checking.proofs.judged.no_gaps.Tie as tie
-use Rattle.checking.proofs.judged.no_gaps.Reads as reads
-use Rattle.checking.proofs.judged.no_gaps.Lts as lts
 
--- src/judged.rt:15:1
 returns : tie.Need-returns
 unfolding noGaps
 returns c = refl

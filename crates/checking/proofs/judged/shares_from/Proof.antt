@@ -1,3 +1,4 @@
+-- `checking::judged::shares_from` meets its contract. The invariant: the shares passed are written, and zeros stand after them. Assumes nothing.
 use Rattle.checking.proofs.JudgedLaws.{filled-none, filled-more, filled-all}
 use Rattle.checking.specs.Judged.{filledOut, sharesFrom}
 use borrow.Author.Needs.{sfits-of}
@@ -13,8 +14,6 @@ use Prim.Native.Nat.{_-_, _+_, _≤_}
 use native.Mathlib.Omega.{arith}
 use Rattle.checking.proofs.judged.shares_from.Statement.{statement}
 use Rattle.checking.proofs.judged.shares_from.Tie as tie
-use Rattle.checking.proofs.judged.shares_from.Reads as reads
-use Rattle.checking.proofs.judged.shares_from.Lts as lts
 
 abbrev Inv-loop : tie.InvT-loop
 Inv-loop shares from n out₀ k₀ out k = (k ≤ n) × (k ≤ length (drop from shares)) × (out ≡ filledOut (take k (drop from shares)))
@@ -22,15 +21,12 @@ Inv-loop shares from n out₀ k₀ out k = (k ≤ n) × (k ≤ length (drop from
 abbrev μ-loop : tie.MeasureT-loop
 μ-loop shares from n out₀ k₀ out k = n - k
 
--- src/judged.rt:59:5
 loop-holds : tie.Need-loop-holds Inv-loop μ-loop
 loop-holds c = (omega arith, omega arith, sym filled-none)
 
--- src/judged.rt:60:18
 add-at : tie.Need-add-at Inv-loop μ-loop
 add-at c = omega (arith, c .before .before .pre)
 
--- src/judged.rt:62:13
 returns : tie.Need-returns Inv-loop μ-loop
 unfolding sharesFrom
 returns c =
@@ -39,31 +35,24 @@ returns c =
     let left : length (drop (a .from) (now (a .shares))) ≡ length (now (a .shares)) - a .from = length-drop (a .from) (now (a .shares)) in
     l .inv .2 ∙ filled-all (drop (a .from) (now (a .shares))) (l .k) (a .n) (omega (arith, c .if1 .taken)) (l .inv .0)
 
--- src/judged.rt:64:18
 mul-out : tie.Need-mul-out Inv-loop μ-loop
 mul-out c = omega arith
 
--- src/judged.rt:64:18
 shared-slice-copy-out-out : tie.Need-shared-slice-copy-out-out Inv-loop μ-loop
 shared-slice-copy-out-out c = omega arith
 
--- src/judged.rt:64:9
 mul-out-2 : tie.Need-mul-out-2 Inv-loop μ-loop
 mul-out-2 c = omega (arith, c .before .before .before .before .pre)
 
--- src/judged.rt:64:9
 array-set-from-out : tie.Need-array-set-from-out Inv-loop μ-loop
 array-set-from-out c = omega (arith, c .before .before .before .before .pre)
 
--- src/judged.rt:65:9
 add-k : tie.Need-add-k Inv-loop μ-loop
 add-k c = omega (arith, c .before .before .before .before .pre)
 
--- src/judged.rt:59:5
 loop-less : tie.Need-loop-less Inv-loop μ-loop
 loop-less c = omega arith
 
--- src/judged.rt:59:5
 loop-again : tie.Need-loop-again Inv-loop μ-loop
 loop-again c =
     let a = c .before .before .before .before .args in
@@ -77,7 +66,6 @@ loop-again c =
       rw (toZ-ofZ w32 z (sfits-of (c .out .given)), ← e, l .inv .2) (filled-more all (l .k) (omega (arith, c .before .if1 .left)) (omega (arith, c .before .before .before .before .pre))),
     )
 
--- src/judged.rt:53:1
 returns-2 : tie.Need-returns-2 Inv-loop μ-loop
 unfolding sharesFrom
 returns-2 c =

@@ -1,53 +1,39 @@
+-- `checking::kept::gap` meets its contract. Assumes nothing.
 use Rattle.checking.specs.Kept.{capIn, gapIn}
 use Rattle.arithmetic.specs.Whole.{leastOf}
 use native.Mathlib.Omega.{arith}
 use borrow.Author.Needs.{needs}
 use Rattle.checking.proofs.kept.gap.Statement.{statement}
 use Rattle.checking.proofs.kept.gap.Tie as tie
-use Rattle.checking.proofs.kept.gap.Reads as reads
-use Rattle.checking.proofs.kept.gap.Lts as lts
-use Rattle.arithmetic.proofs.whole.excess.Reads as excess-reads
-use Rattle.arithmetic.proofs.whole.least.Reads as least-reads
-use Rattle.checking.proofs.kept.wide.Reads as wide-reads
 
--- src/kept.rt:27:22
 wide-requires : tie.Need-wide-requires
 wide-requires c κs = search needs
 
--- src/kept.rt:27:46
 wide-requires-2 : tie.Need-wide-requires-2
 wide-requires-2 c κs = search needs
 
--- src/kept.rt:27:9
 excess-requires : tie.Need-excess-requires
 excess-requires c κs = search needs
 
--- src/kept.rt:28:29
 wide-requires-3 : tie.Need-wide-requires-3
 wide-requires-3 c κs = search needs
 
--- src/kept.rt:28:9
 least-requires : tie.Need-least-requires
 least-requires c κs = search needs
 
--- src/kept.rt:29:11
 excess-requires-2 : tie.Need-excess-requires-2
 excess-requires-2 c κs = search needs
 
--- src/kept.rt:29:32
 wide-requires-4 : tie.Need-wide-requires-4
 wide-requires-4 c κs = search needs
 
--- src/kept.rt:29:5
 least-requires-2 : tie.Need-least-requires-2
 least-requires-2 c κs = search needs
 
--- src/kept.rt:29:5
 cast-result : tie.Need-cast-result
 unfolding leastOf
 cast-result c = omega (arith, c .least2 .ensures, c .before .wide4 .ensures .1)
 
--- src/kept.rt:24:1
 returns : tie.Need-returns
 unfolding gapIn capIn
 returns c =

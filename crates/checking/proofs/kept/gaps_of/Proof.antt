@@ -1,3 +1,4 @@
+-- `checking::kept::gaps_of` meets its contract. Assumes nothing.
 use Rattle.checking.specs.Kept.{gapOn}
 use Rattle.quarter.proofs.LineLaws.{past-end}
 use Rattle.quarter.specs.Blank.{noFigures}
@@ -7,9 +8,6 @@ use Prim.Native.Nat.{_-_}
 use native.Mathlib.Omega.{arith}
 use Rattle.checking.proofs.kept.gaps_of.Statement.{statement}
 use Rattle.checking.proofs.kept.gaps_of.Tie as tie
-use Rattle.checking.proofs.kept.gaps_of.Reads as reads
-use Rattle.checking.proofs.kept.gaps_of.Lts as lts
-use Rattle.checking.proofs.kept.gap.Reads as gap-reads
 
 abbrev Inv-loop : tie.InvT-loop
 Inv-loop lines out₀ k₀ out k = Mapped gapOn lines out₀ out k
@@ -17,39 +15,30 @@ Inv-loop lines out₀ k₀ out k = Mapped gapOn lines out₀ out k
 abbrev μ-loop : tie.MeasureT-loop
 μ-loop lines out₀ k₀ out k = 32 - k
 
--- src/kept.rt:37:5
 loop-holds : tie.Need-loop-holds Inv-loop μ-loop
 loop-holds c = mapped-none gapOn (c .args .t1) (replicate 32 0)
 
--- src/kept.rt:38:20
 mul-line : tie.Need-mul-line Inv-loop μ-loop
 mul-line c = omega arith
 
--- src/kept.rt:38:20
 array-copy-out-line : tie.Need-array-copy-out-line Inv-loop μ-loop
 array-copy-out-line c = omega arith
 
--- src/kept.rt:40:18
 gap-requires : tie.Need-gap-requires Inv-loop μ-loop
 gap-requires c κs = tt
 
--- src/kept.rt:40:9
 mul-out : tie.Need-mul-out Inv-loop μ-loop
 mul-out c = omega arith
 
--- src/kept.rt:40:9
 array-write-out : tie.Need-array-write-out Inv-loop μ-loop
 array-write-out c = omega arith
 
--- src/kept.rt:41:9
 add-k : tie.Need-add-k Inv-loop μ-loop
 add-k c = omega arith
 
--- src/kept.rt:37:5
 loop-less : tie.Need-loop-less Inv-loop μ-loop
 loop-less c = omega arith
 
--- src/kept.rt:37:5
 loop-again : tie.Need-loop-again Inv-loop μ-loop
 unfolding noFigures
 loop-again c =
@@ -57,7 +46,6 @@ loop-again c =
     let l = c .before .before .before .before .loop in
     rw (c .gap .ensures) (mapped-more gapOn (s .args .t1) (replicate 32 0) (l .out) (l .k) past-end (omega (arith, s .good)) (omega (arith, s .good)) (l .inv))
 
--- src/kept.rt:32:1
 returns : tie.Need-returns Inv-loop μ-loop
 returns c =
     let s = c .before .before in

@@ -1,28 +1,22 @@
+-- `checking::kept::put_surplus` meets its contract: past the end nothing is written. Assumes nothing.
 use lib.Seq.{set-out}
 use mathlib.Core.Path.{sym}
 use borrow.Author.Needs.{needs}
 use Rattle.checking.proofs.kept.put_surplus.Statement.{statement}
 use Rattle.checking.proofs.kept.put_surplus.Tie as tie
-use Rattle.checking.proofs.kept.put_surplus.Reads as reads
-use Rattle.checking.proofs.kept.put_surplus.Lts as lts
 
--- src/kept.rt:58:9
 mul-surpluses : tie.Need-mul-surpluses
 mul-surpluses c = search needs
 
--- src/kept.rt:58:9
 slice-write-surpluses : tie.Need-slice-write-surpluses
 slice-write-surpluses c = search needs
 
--- src/kept.rt:54:1
 same-length : tie.Need-same-length
 same-length c = search needs
 
--- src/kept.rt:54:1
 returns : tie.Need-returns
 returns c = search needs
 
--- src/kept.rt:54:1
 returns-2 : tie.Need-returns-2
 returns-2 c = sym (set-out _ _ _ (c .if1 .left))
 

@@ -1,29 +1,23 @@
+-- `checking::wanted::is_quarter` meets its contract. Assumes nothing.
 use Rattle.checking.specs.Wanted.{isQuarter}
 use mir.Syntax.{w32}
 use mir.ValLaws.{toZ-ofZ}
 use borrow.Author.Needs.{needs}
 use Rattle.checking.proofs.wanted.is_quarter.Statement.{statement}
 use Rattle.checking.proofs.wanted.is_quarter.Tie as tie
-use Rattle.checking.proofs.wanted.is_quarter.Reads as reads
-use Rattle.checking.proofs.wanted.is_quarter.Lts as lts
-use Rattle.arithmetic.proofs.whole.above_zero.Reads as above-zero-reads
 
--- src/wanted.rt:46:9
 returns : tie.Need-returns
 unfolding isQuarter
 returns c =
     let e = toZ-ofZ w32 (c .before .args .said) (c .before .fits .said) in
     rw (rw e at (c .if1 .taken))
 
--- src/wanted.rt:48:5
 above-zero-requires : tie.Need-above-zero-requires
 above-zero-requires c κs = search needs
 
--- src/wanted.rt:48:5
 cast-result : tie.Need-cast-result
 cast-result c = search needs
 
--- src/wanted.rt:42:1
 returns-2 : tie.Need-returns-2
 unfolding isQuarter
 returns-2 c =

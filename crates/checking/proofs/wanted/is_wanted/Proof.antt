@@ -1,3 +1,4 @@
+-- `checking::wanted::is_wanted` meets its contract: where one is wanted, a quarter hour has some. Assumes nothing.
 use Rattle.checking.proofs.WantedLaws.{some-wanted}
 use Rattle.checking.specs.Wanted.{wantedIn, placeIn, isWanted}
 use borrow.Author.Tests.{le-ltb, lt-ltb}
@@ -7,40 +8,26 @@ use native.Mathlib.Omega.{arith}
 use borrow.Author.Needs.{needs}
 use Rattle.checking.proofs.wanted.is_wanted.Statement.{statement}
 use Rattle.checking.proofs.wanted.is_wanted.Tie as tie
-use Rattle.checking.proofs.wanted.is_wanted.Reads as reads
-use Rattle.checking.proofs.wanted.is_wanted.Lts as lts
-use Rattle.checking.proofs.wanted.place_of.Reads as place-of-reads
-use Rattle.checking.proofs.wanted.says_place.Reads as says-place-reads
-use Rattle.checking.proofs.wanted.wanted.Reads as wanted-reads
-use Rattle.contracts.proofs.book.Book.held.Reads as held-reads
-use Rattle.contracts.proofs.books.Books.book.Reads as book-reads
 
--- src/wanted.rt:95:8
 wanted-requires : tie.Need-wanted-requires
 wanted-requires c κs = search needs
 
--- src/wanted.rt:96:9
 returns : tie.Need-returns
 unfolding isWanted
 returns c = rw (← c .before .wanted .ensures, le-ltb _ _ (c .if1 .taken))
 
--- src/wanted.rt:98:21
 book-requires : tie.Need-book-requires
 book-requires c κs = search needs
 
--- src/wanted.rt:98:9
 held-requires : tie.Need-held-requires
 held-requires c κs = search needs
 
--- src/wanted.rt:99:21
 book-requires-2 : tie.Need-book-requires-2
 book-requires-2 c κs = search needs
 
--- src/wanted.rt:99:9
 held-requires-2 : tie.Need-held-requires-2
 held-requires-2 c κs = search needs
 
--- src/wanted.rt:100:9
 place-of-requires : tie.Need-place-of-requires
 unfolding wantedIn
 place-of-requires c κs =
@@ -49,11 +36,9 @@ place-of-requires c κs =
     let h : c .before .before .before .before .before .before .before .args .given < c .before .before .before .before .before .before .before .args .quarters * (c .before .before .held .result + c .held2 .result) = omega (arith, c .before .before .before .before .if1 .left) in
     (some-wanted (c .before .before .before .before .before .before .before .args .quarters) (c .before .before .held .result + c .held2 .result) (c .before .before .before .before .before .before .before .args .given) h, omega (arith, c .before .before .held .ensures .few, c .held2 .ensures .few))
 
--- src/wanted.rt:101:5
 says-place-requires : tie.Need-says-place-requires
 says-place-requires c κs = search needs
 
--- src/wanted.rt:92:1
 returns-2 : tie.Need-returns-2
 unfolding isWanted
 returns-2 c =

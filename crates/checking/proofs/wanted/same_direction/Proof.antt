@@ -1,3 +1,4 @@
+-- `checking::wanted::same_direction` meets its contract. Assumes nothing.
 use Rattle.checking.specs.Wanted.{sameDirection}
 use Rattle.vocabulary.specs.declared.direction.Direction.the-variants.{Positive, Negative}
 use Rattle.vocabulary.specs.declared.direction.Direction.{Direction}
@@ -6,35 +7,26 @@ use mathlib.Core.Path.{_≡_, refl, ap, _∙_}
 use borrow.Author.Needs.{needs}
 use Rattle.checking.proofs.wanted.same_direction.Statement.{statement}
 use Rattle.checking.proofs.wanted.same_direction.Tie as tie
-use Rattle.checking.proofs.wanted.same_direction.Reads as reads
-use Rattle.checking.proofs.wanted.same_direction.Lts as lts
-use Rattle.checking.proofs.wanted.is_positive.Reads as is-positive-reads
 
 turned : (d : Direction) → not (sameDirection d Positive) ≡ sameDirection d Negative
 turned Positive = refl
 turned Negative = refl
 
--- src/wanted.rt:64:32
 enum-told : tie.Need-enum-told
 enum-told c = search needs
 
--- src/wanted.rt:64:32
 is-positive-requires : tie.Need-is-positive-requires
 is-positive-requires c κs = search needs
 
--- src/wanted.rt:65:33
 enum-told-2 : tie.Need-enum-told-2
 enum-told-2 c = search needs
 
--- src/wanted.rt:65:33
 is-positive-requires-2 : tie.Need-is-positive-requires-2
 is-positive-requires-2 c κs = search needs
 
--- src/wanted.rt:60:1
 returns : tie.Need-returns
 returns c = rw (c .before .enum-told .given .1) (c .is-positive .ensures)
 
--- src/wanted.rt:60:1
 returns-2 : tie.Need-returns-2
 returns-2 c = rw (c .before .enum-told2 .given .1) (ap not (c .is-positive2 .ensures) ∙ turned (c .before .before .before .args .one))
 

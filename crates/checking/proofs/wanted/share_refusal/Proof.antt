@@ -1,3 +1,4 @@
+-- `checking::wanted::share_refusal` meets its contract, ground by ground. Assumes nothing.
 use Rattle.arithmetic.specs.Whole.{leastOf}
 use Rattle.contracts.specs.Book.{heldOf}
 use Rattle.checking.proofs.WantedLaws.{among}
@@ -11,31 +12,22 @@ use native.Mathlib.Omega.{arith}
 use borrow.Author.Needs.{needs}
 use Rattle.checking.proofs.wanted.share_refusal.Statement.{statement}
 use Rattle.checking.proofs.wanted.share_refusal.Tie as tie
-use Rattle.checking.proofs.wanted.share_refusal.Reads as reads
-use Rattle.checking.proofs.wanted.share_refusal.Lts as lts
-use Rattle.checking.proofs.wanted.is_wanted.Reads as is-wanted-reads
-use Rattle.contracts.proofs.identifier.well_formed.Reads as well-formed-reads
 
--- src/wanted.rt:114:9
 well-formed-requires : tie.Need-well-formed-requires
 well-formed-requires c κs = search needs
 
--- src/wanted.rt:115:9
 returns : tie.Need-returns
 unfolding shareGround
 returns c = (rw (sym (c .before .well-formed .ensures) ∙ not-true _ (c .if1 .taken)), λ z. absurd (omega (arith, z)))
 
--- src/wanted.rt:117:9
 is-wanted-requires : tie.Need-is-wanted-requires
 is-wanted-requires c κs = search needs
 
--- src/wanted.rt:118:9
 returns-2 : tie.Need-returns-2
 unfolding shareGround
 returns-2 c =
     (rw (sym (c .before .before .before .well-formed .ensures) ∙ not-false _ (c .before .before .if1 .left), sym (c .before .is-wanted .ensures) ∙ not-true _ (c .if2 .taken)), λ z. absurd (omega (arith, z)))
 
--- src/wanted.rt:105:1
 returns-3 : tie.Need-returns-3
 unfolding shareGround wantedIn heldOf leastOf
 returns-3 c =

@@ -1,3 +1,4 @@
+-- `checking::wanted::wanted` meets its contract: 255 × 64 fits. Assumes nothing.
 use Prim.Native.Nat.{_+_, _≤_}
 use native.Mathlib.Nat.{mul-le-mul}
 use Rattle.checking.specs.Wanted.{wantedIn}
@@ -5,39 +6,28 @@ use native.Mathlib.Omega.{arith}
 use borrow.Author.Needs.{needs}
 use Rattle.checking.proofs.wanted.wanted.Statement.{statement}
 use Rattle.checking.proofs.wanted.wanted.Tie as tie
-use Rattle.checking.proofs.wanted.wanted.Reads as reads
-use Rattle.checking.proofs.wanted.wanted.Lts as lts
-use Rattle.contracts.proofs.book.Book.held.Reads as held-reads
-use Rattle.contracts.proofs.books.Books.book.Reads as book-reads
 
--- src/wanted.rt:86:21
 book-requires : tie.Need-book-requires
 book-requires c κs = search needs
 
--- src/wanted.rt:86:9
 held-requires : tie.Need-held-requires
 held-requires c κs = search needs
 
--- src/wanted.rt:87:21
 book-requires-2 : tie.Need-book-requires-2
 book-requires-2 c κs = search needs
 
--- src/wanted.rt:87:9
 held-requires-2 : tie.Need-held-requires-2
 held-requires-2 c κs = search needs
 
--- src/wanted.rt:88:28
 add-result : tie.Need-add-result
 add-result c = omega (arith, c .before .before .held .ensures .few, c .held2 .ensures .few)
 
--- src/wanted.rt:88:5
 mul-result : tie.Need-mul-result
 mul-result c =
     let few : c .before .before .held .result + c .held2 .result ≤ 64 = omega (arith, c .before .before .held .ensures .few, c .held2 .ensures .few) in
     let day : c .before .before .before .before .args .quarters ≤ 255 = omega (arith, c .before .before .before .before .fits .quarters) in
     omega (arith, mul-le-mul day few)
 
--- src/wanted.rt:83:1
 returns : tie.Need-returns
 unfolding wantedIn
 returns c = rw (← c .before .before .before .book .ensures, ← c .before .book2 .ensures, ← c .before .before .held .ensures .is, ← c .held2 .ensures .is)

@@ -1,33 +1,24 @@
+-- `checking::checker::Checker::answered` meets its contract. Assumes nothing.
 use Rattle.checking.proofs.CheckerLaws.{refuses, goes-on}
 use Rattle.checking.specs.Checker.{answeredBy}
 use mathlib.Core.Path.{refl, _∙_}
 use borrow.Author.Needs.{needs}
 use Rattle.checking.proofs.checker.Checker.answered.Statement.{statement}
 use Rattle.checking.proofs.checker.Checker.answered.Tie as tie
-use Rattle.checking.proofs.checker.Checker.answered.Reads as reads
-use Rattle.checking.proofs.checker.Checker.answered.Lts as lts
-use Rattle.checking.proofs.checker.Checker.at.Reads as at-reads
-use Rattle.checking.proofs.checker.Checker.stopped.Reads as stopped-reads
-use Rattle.vocabulary.proofs.refusal.Refusal.number.Reads as number-reads
 
--- src/checker.rt:124:12
 number-requires : tie.Need-number-requires
 number-requires c κs = search needs
 
--- src/checker.rt:125:13
 stopped-requires : tie.Need-stopped-requires
 stopped-requires c κs = search needs
 
--- src/checker.rt:125:13
 returns : tie.Need-returns
 unfolding answeredBy
 returns c = c .stopped .ensures ∙ refuses {refusal′ = c .before .before .before .args .answer .refusal} (c .before .before .number .ensures) refl _ _ _ (c .before .if1 .taken)
 
--- src/checker.rt:127:9
 at-requires : tie.Need-at-requires
 at-requires c κs = search needs
 
--- src/checker.rt:120:5
 returns-2 : tie.Need-returns-2
 unfolding answeredBy
 returns-2 c = c .at .ensures ∙ goes-on {refusal′ = c .before .before .before .args .answer .refusal} (c .before .before .number .ensures) refl _ _ _ (c .before .if1 .left)

@@ -1,46 +1,32 @@
+-- `checking::checker::Checker::asked_later` meets its contract. Assumes nothing.
 use borrow.Author.Needs.{needs}
 use Rattle.checking.proofs.checker.Checker.asked_later.Statement.{statement}
 use Rattle.checking.proofs.checker.Checker.asked_later.Tie as tie
-use Rattle.checking.proofs.checker.Checker.asked_later.Reads as reads
-use Rattle.checking.proofs.checker.Checker.asked_later.Lts as lts
-use Rattle.checking.proofs.checker.Checker.share.Reads as share-reads
-use Rattle.checking.proofs.checker.Checker.stopped.Reads as stopped-reads
-use Rattle.checking.proofs.checker.too_late.Reads as too-late-reads
-use Rattle.reading.proofs.share.read_asked.Reads as read-asked-reads
 
--- src/checker.rt:278:13
 read-asked-requires : tie.Need-read-asked-requires
 read-asked-requires c κs = search needs
 
--- src/checker.rt:280:29
 enum-known-asked : tie.Need-enum-known-asked
 enum-known-asked c = search needs
 
--- src/checker.rt:280:68
 too-late-requires : tie.Need-too-late-requires
 too-late-requires c κs = search needs
 
--- src/checker.rt:280:38
 stopped-requires : tie.Need-stopped-requires
 stopped-requires c κs = search needs
 
--- src/checker.rt:281:26
 enum-known-asked-2 : tie.Need-enum-known-asked-2
 enum-known-asked-2 c = search needs
 
--- src/checker.rt:281:36
 share-requires : tie.Need-share-requires
 share-requires c κs = search needs
 
--- src/checker.rt:269:5
 returns : tie.Need-returns
 returns c = λ gaps surpluses. rw (← c .before .before .before .before .before .read-asked .ensures, c .before .before .before .asked .given .1, c .stopped .ensures, c .before .too-late .ensures)
 
--- src/checker.rt:269:5
 same-length : tie.Need-same-length
 same-length c = search needs
 
--- src/checker.rt:269:5
 returns-2 : tie.Need-returns-2
 returns-2 c = λ gaps surpluses. rw (← c .before .before .before .before .before .before .read-asked .ensures, c .before .before .before .before .asked2 .given .1) (c .before .share .ensures gaps surpluses)
 

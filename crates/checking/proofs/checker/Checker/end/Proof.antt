@@ -1,3 +1,4 @@
+-- `checking::checker::Checker::end` meets its contract. Assumes nothing.
 use Rattle.checking.proofs.CheckerLaws.{refuses, goes-on}
 use Rattle.checking.specs.declared.checker.Stage.the-variants.{Ended}
 use Rattle.checking.specs.Checker.{checkerAt, endedBy}
@@ -6,35 +7,23 @@ use mathlib.Core.Path.{ap, _∙_}
 use borrow.Author.Needs.{needs}
 use Rattle.checking.proofs.checker.Checker.end.Statement.{statement}
 use Rattle.checking.proofs.checker.Checker.end.Tie as tie
-use Rattle.checking.proofs.checker.Checker.end.Reads as reads
-use Rattle.checking.proofs.checker.Checker.end.Lts as lts
-use Rattle.checking.proofs.checker.Checker.at.Reads as at-reads
-use Rattle.checking.proofs.checker.Checker.stopped.Reads as stopped-reads
-use Rattle.settlement.proofs.run.Run.end.Reads as end-reads
-use Rattle.vocabulary.proofs.refusal.Refusal.number.Reads as number-reads
 
--- src/checker.rt:133:13
 end-requires : tie.Need-end-requires
 end-requires c κs = search needs
 
--- src/checker.rt:135:12
 number-requires : tie.Need-number-requires
 number-requires c κs = search needs
 
--- src/checker.rt:136:13
 stopped-requires : tie.Need-stopped-requires
 stopped-requires c κs = search needs
 
--- src/checker.rt:136:13
 returns : tie.Need-returns
 unfolding endedBy
 returns c = c .stopped .ensures ∙ refuses (c .before .before .number .ensures) (ap (λ (o : RunEnded). o .refusal) (c .before .before .before .end .ensures)) _ _ _ (c .before .if1 .taken)
 
--- src/checker.rt:138:9
 at-requires : tie.Need-at-requires
 at-requires c κs = search needs
 
--- src/checker.rt:130:5
 returns-2 : tie.Need-returns-2
 unfolding endedBy
 returns-2 c =

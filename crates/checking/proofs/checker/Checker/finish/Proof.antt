@@ -1,86 +1,64 @@
+-- `checking::checker::Checker::finish` meets its contract. Assumes nothing.
 use Rattle.checking.specs.Checker.{finishText}
 use borrow.Author.Needs.{needs}
 use Rattle.checking.proofs.checker.Checker.finish.Statement.{statement}
 use Rattle.checking.proofs.checker.Checker.finish.Tie as tie
-use Rattle.checking.proofs.checker.Checker.finish.Reads as reads
-use Rattle.checking.proofs.checker.Checker.finish.Lts as lts
-use Rattle.checking.proofs.checker.Checker.ruled.Reads as ruled-reads
-use Rattle.checking.proofs.checker.print_fault.Reads as print-fault-reads
-use Rattle.sheets.proofs.print_refusal.Reads as print-refusal-reads
-use Rattle.std.proofs.num.wrapping_add_u64.Reads as wrapping-add-u64-reads
 
--- src/checker.rt:349:13
 wrapping-add-u64-requires : tie.Need-wrapping-add-u64-requires
 wrapping-add-u64-requires c κs = search needs
 
--- src/checker.rt:353:43
 enum-told : tie.Need-enum-told
 enum-told c = search needs
 
--- src/checker.rt:353:29
 print-refusal-requires : tie.Need-print-refusal-requires
 print-refusal-requires c κs = search needs
 
--- src/checker.rt:354:42
 enum-told-2 : tie.Need-enum-told-2
 enum-told-2 c = search needs
 
--- src/checker.rt:354:28
 print-refusal-requires-2 : tie.Need-print-refusal-requires-2
 print-refusal-requires-2 c κs = search needs
 
--- src/checker.rt:355:26
 enum-known-stage : tie.Need-enum-known-stage
 enum-known-stage c = search needs
 
--- src/checker.rt:355:36
 ruled-requires : tie.Need-ruled-requires
 ruled-requires c κs = search needs
 
--- src/checker.rt:364:28
 enum-known-stage-2 : tie.Need-enum-known-stage-2
 enum-known-stage-2 c = search needs
 
--- src/checker.rt:364:38
 print-fault-requires : tie.Need-print-fault-requires
 print-fault-requires c κs = search needs
 
--- src/checker.rt:339:5
 same-length : tie.Need-same-length
 same-length c = search needs
 
--- src/checker.rt:339:5
 returns : tie.Need-returns
 unfolding finishText
 returns c =
     let p = c .before .before .print-refusal .ensures in
     rw (c .before .before .before .before .enum-told .given .1, ← c .before .before .before .before .before .before .before .wrapping-add-u64 .ensures) (record { answer = p .0; bytes = p .1 .0; room = p .1 .1 })
 
--- src/checker.rt:339:5
 same-length-2 : tie.Need-same-length-2
 same-length-2 c = search needs
 
--- src/checker.rt:339:5
 returns-2 : tie.Need-returns-2
 unfolding finishText
 returns-2 c =
     let p = c .before .before .print-refusal2 .ensures in
     rw (c .before .before .before .before .enum-told2 .given .1, ← c .before .before .before .before .before .before .before .wrapping-add-u64 .ensures) (record { answer = p .0; bytes = p .1 .0; room = p .1 .1 })
 
--- src/checker.rt:339:5
 same-length-3 : tie.Need-same-length-3
 same-length-3 c = search needs
 
--- src/checker.rt:339:5
 returns-3 : tie.Need-returns-3
 unfolding finishText
 returns-3 c = rw (c .before .before .before .before .before .stage .given .1, ← c .before .before .before .before .before .before .before .before .wrapping-add-u64 .ensures) (c .before .before .ruled .ensures)
 
--- src/checker.rt:339:5
 same-length-4 : tie.Need-same-length-4
 same-length-4 c = search needs
 
--- src/checker.rt:339:5
 returns-4 : tie.Need-returns-4
 unfolding finishText
 returns-4 c = rw (c .before .before .before .before .before .stage2 .given .1) (c .before .before .print-fault .ensures)

@@ -1,3 +1,4 @@
+-- `checking::checker::Checker::new` meets its contract. Assumes nothing.
 use Rattle.checking.specs.declared.checker.Stage.the-variants.{Empty}
 use Rattle.checking.specs.Checker.{checkerAt, emptyChecker}
 use Rattle.settlement.specs.declared.run.Opened.{Opened}
@@ -5,15 +6,10 @@ use mathlib.Core.Path.{ap}
 use borrow.Author.Needs.{needs}
 use Rattle.checking.proofs.checker.Checker.new.Statement.{statement}
 use Rattle.checking.proofs.checker.Checker.new.Tie as tie
-use Rattle.checking.proofs.checker.Checker.new.Reads as reads
-use Rattle.checking.proofs.checker.Checker.new.Lts as lts
-use Rattle.settlement.proofs.run.Run.open.Reads as open-reads
 
--- src/checker.rt:82:13
 open-requires : tie.Need-open-requires
 open-requires c κs = search needs
 
--- src/checker.rt:69:5
 returns : tie.Need-returns
 unfolding emptyChecker
 returns c = ap (λ (o : Opened). checkerAt Empty (o .run)) (c .before .«open» .ensures)

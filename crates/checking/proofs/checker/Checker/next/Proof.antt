@@ -1,127 +1,91 @@
+-- `checking::checker::Checker::next` meets its contract. Assumes nothing.
 use borrow.Author.Needs.{sfits-of}
 use mir.Syntax.{w32}
 use mir.Facts.{toZ-ofZ}
 use borrow.Author.Needs.{needs}
 use Rattle.checking.proofs.checker.Checker.next.Statement.{statement}
 use Rattle.checking.proofs.checker.Checker.next.Tie as tie
-use Rattle.checking.proofs.checker.Checker.next.Reads as reads
-use Rattle.checking.proofs.checker.Checker.next.Lts as lts
-use Rattle.checking.proofs.checker.Checker.answered.Reads as answered-reads
-use Rattle.checking.proofs.checker.Checker.end.Reads as end-reads
-use Rattle.checking.proofs.checker.Checker.sample.Reads as sample-reads
-use Rattle.checking.proofs.checker.Checker.stopped.Reads as stopped-reads
-use Rattle.reading.proofs.identifier.Reads as identifier-reads
-use Rattle.settlement.proofs.run.Run.bounds.Reads as bounds-reads
-use Rattle.settlement.proofs.run.Run.contract.Reads as contract-reads
-use Rattle.settlement.proofs.run.Run.setpoint.Reads as setpoint-reads
 
--- src/checker.rt:207:62
 enum-told : tie.Need-enum-told
 enum-told c = search needs
 
--- src/checker.rt:207:32
 stopped-requires : tie.Need-stopped-requires
 stopped-requires c κs = search needs
 
--- src/checker.rt:208:26
 enum-known-said : tie.Need-enum-known-said
 enum-known-said c = search needs
 
--- src/checker.rt:208:68
 bounds-requires : tie.Need-bounds-requires
 bounds-requires c κs = search needs
 
--- src/checker.rt:208:37
 answered-requires : tie.Need-answered-requires
 answered-requires c κs = search needs
 
--- src/checker.rt:209:28
 enum-known-said-2 : tie.Need-enum-known-said-2
 enum-known-said-2 c = search needs
 
--- src/checker.rt:209:72
 setpoint-requires : tie.Need-setpoint-requires
 setpoint-requires c κs = search needs
 
--- src/checker.rt:209:41
 answered-requires-2 : tie.Need-answered-requires-2
 answered-requires-2 c κs = search needs
 
--- src/checker.rt:210:28
 enum-known-said-3 : tie.Need-enum-known-said-3
 enum-known-said-3 c = search needs
 
--- src/checker.rt:213:40
 identifier-requires : tie.Need-identifier-requires
 identifier-requires c κs = search needs
 
--- src/checker.rt:213:17
 contract-requires : tie.Need-contract-requires
 contract-requires c κs = search needs
 
--- src/checker.rt:210:41
 answered-requires-3 : tie.Need-answered-requires-3
 answered-requires-3 c κs = search needs
 
--- src/checker.rt:215:26
 enum-known-said-4 : tie.Need-enum-known-said-4
 enum-known-said-4 c = search needs
 
--- src/checker.rt:215:37
 sample-requires : tie.Need-sample-requires
 sample-requires c κs = search needs
 
--- src/checker.rt:216:26
 enum-told-2 : tie.Need-enum-told-2
 enum-told-2 c = search needs
 
--- src/checker.rt:216:26
 end-requires : tie.Need-end-requires
 end-requires c κs = search needs
 
--- src/checker.rt:217:62
 enum-told-3 : tie.Need-enum-told-3
 enum-told-3 c = search needs
 
--- src/checker.rt:217:32
 stopped-requires-2 : tie.Need-stopped-requires-2
 stopped-requires-2 c κs = search needs
 
--- src/checker.rt:196:5
 returns : tie.Need-returns
 returns c = λ shares. rw (c .before .enum-told .given .1, c .stopped .ensures)
 
--- src/checker.rt:196:5
 returns-2 : tie.Need-returns-2
 returns-2 c = λ shares. rw (c .before .before .before .said .given .1, c .answered .ensures, c .before .bounds .ensures)
 
--- src/checker.rt:196:5
 returns-3 : tie.Need-returns-3
 returns-3 c =
     let answer = rw (toZ-ofZ {w = w32} (sfits-of (c .before .before .known-told2 .given .0 .1))) at (c .before .setpoint .ensures) in
     λ shares. rw (c .before .before .before .said2 .given .1, c .answered2 .ensures, answer)
 
--- src/checker.rt:196:5
 returns-4 : tie.Need-returns-4
 returns-4 c = λ shares. rw (c .before .before .before .before .said3 .given .1, c .answered3 .ensures, c .before .contract .ensures, c .before .before .identifier .ensures)
 
--- src/checker.rt:196:5
 same-length : tie.Need-same-length
 same-length c = search needs
 
--- src/checker.rt:196:5
 same-length-2 : tie.Need-same-length-2
 same-length-2 c = search needs
 
--- src/checker.rt:196:5
 returns-5 : tie.Need-returns-5
 returns-5 c = λ shares. rw (c .before .before .before .before .before .before .before .said4 .given .1) (c .before .before .before .sample .ensures shares)
 
--- src/checker.rt:196:5
 returns-6 : tie.Need-returns-6
 returns-6 c = λ shares. rw (c .before .enum-told2 .given .1, c .end .ensures)
 
--- src/checker.rt:196:5
 returns-7 : tie.Need-returns-7
 returns-7 c = λ shares. rw (c .before .enum-told3 .given .1, c .stopped2 .ensures)
 

@@ -1,3 +1,4 @@
+-- `checking::checker::Checker::open` meets its contract. Assumes nothing.
 use Rattle.checking.proofs.CheckerLaws.{refuses, goes-on}
 use Rattle.checking.specs.declared.checker.Stage.the-variants.{Open}
 use Rattle.checking.specs.Checker.{checkerAt, openedBy}
@@ -6,35 +7,23 @@ use mathlib.Core.Path.{ap, _∙_}
 use borrow.Author.Needs.{needs}
 use Rattle.checking.proofs.checker.Checker.open.Statement.{statement}
 use Rattle.checking.proofs.checker.Checker.open.Tie as tie
-use Rattle.checking.proofs.checker.Checker.open.Reads as reads
-use Rattle.checking.proofs.checker.Checker.open.Lts as lts
-use Rattle.checking.proofs.checker.Checker.at.Reads as at-reads
-use Rattle.checking.proofs.checker.Checker.stopped.Reads as stopped-reads
-use Rattle.settlement.proofs.run.Run.open.Reads as open-reads
-use Rattle.vocabulary.proofs.refusal.Refusal.number.Reads as number-reads
 
--- src/checker.rt:112:13
 open-requires : tie.Need-open-requires
 open-requires c κs = search needs
 
--- src/checker.rt:114:12
 number-requires : tie.Need-number-requires
 number-requires c κs = search needs
 
--- src/checker.rt:115:13
 stopped-requires : tie.Need-stopped-requires
 stopped-requires c κs = search needs
 
--- src/checker.rt:115:13
 returns : tie.Need-returns
 unfolding openedBy
 returns c = c .stopped .ensures ∙ refuses (c .before .before .number .ensures) (ap (λ (o : Opened). o .refusal) (c .before .before .before .«open» .ensures)) _ _ _ (c .before .if1 .taken)
 
--- src/checker.rt:117:9
 at-requires : tie.Need-at-requires
 at-requires c κs = search needs
 
--- src/checker.rt:109:5
 returns-2 : tie.Need-returns-2
 unfolding openedBy
 returns-2 c =

@@ -1,3 +1,4 @@
+-- `checking::checker::Checker::ruled` meets its contract. Assumes nothing.
 use Rattle.checking.specs.Checker.{ruledText}
 use Rattle.checking.specs.Judged.{judgedOf}
 use Rattle.checking.specs.Wanted.{wantedIn}
@@ -9,36 +10,22 @@ use mathlib.Core.Path.{_≡_, _∙_}
 use borrow.Author.Needs.{needs}
 use Rattle.checking.proofs.checker.Checker.ruled.Statement.{statement}
 use Rattle.checking.proofs.checker.Checker.ruled.Tie as tie
-use Rattle.checking.proofs.checker.Checker.ruled.Reads as reads
-use Rattle.checking.proofs.checker.Checker.ruled.Lts as lts
-use Rattle.checking.proofs.judged.judged.Reads as judged-reads
-use Rattle.checking.proofs.wanted.wanted.Reads as wanted-reads
-use Rattle.settlement.proofs.run.Run.books.Reads as books-reads
-use Rattle.settlement.proofs.run.Run.end.Reads as end-reads
-use Rattle.sheets.proofs.print_refusal.Reads as print-refusal-reads
-use Rattle.sheets.proofs.verdict.print_verdict.Reads as print-verdict-reads
 
--- src/checker.rt:330:13
 books-requires : tie.Need-books-requires
 books-requires c κs = search needs
 
--- src/checker.rt:331:24
 end-requires : tie.Need-end-requires
 end-requires c κs = search needs
 
--- src/checker.rt:332:12
 wanted-requires : tie.Need-wanted-requires
 wanted-requires c κs = search needs
 
--- src/checker.rt:333:13
 print-refusal-requires : tie.Need-print-refusal-requires
 print-refusal-requires c κs = search needs
 
--- src/checker.rt:333:13
 same-length : tie.Need-same-length
 same-length c = search needs
 
--- src/checker.rt:333:13
 returns : tie.Need-returns
 unfolding ruledText
 returns c =
@@ -47,19 +34,15 @@ returns c =
     let same : c .before .before .before .before .before .wanted .result ≡ wantedIn (a .run .books) (endedOf (a .run) .quarters) = c .before .before .before .before .before .wanted .ensures ∙ rw (c .before .before .before .before .before .before .before .books .ensures, c .before .before .before .before .before .before .end .ensures) in
     rw (← same, ne-eqb _ _ (c .before .before .before .before .if1 .taken)) (record { answer = p .0; bytes = p .1 .0; room = p .1 .1 })
 
--- src/checker.rt:335:28
 judged-requires : tie.Need-judged-requires
 judged-requires c κs = search needs
 
--- src/checker.rt:335:9
 print-verdict-requires : tie.Need-print-verdict-requires
 print-verdict-requires c κs = search needs
 
--- src/checker.rt:319:5
 same-length-2 : tie.Need-same-length-2
 same-length-2 c = search needs
 
--- src/checker.rt:319:5
 returns-2 : tie.Need-returns-2
 unfolding ruledText
 returns-2 c =

@@ -1,3 +1,4 @@
+-- `checking::checker::Checker::sample` meets its contract. Assumes nothing.
 use Rattle.checking.proofs.CheckerLaws.{none-refused, some-refused}
 use Rattle.checking.specs.Checker.{sampleTurn}
 use Rattle.settlement.specs.declared.run.Answer.{Answer}
@@ -5,44 +6,30 @@ use mathlib.Core.Path.{ap}
 use borrow.Author.Needs.{needs}
 use Rattle.checking.proofs.checker.Checker.sample.Statement.{statement}
 use Rattle.checking.proofs.checker.Checker.sample.Tie as tie
-use Rattle.checking.proofs.checker.Checker.sample.Reads as reads
-use Rattle.checking.proofs.checker.Checker.sample.Lts as lts
-use Rattle.checking.proofs.checker.Checker.quarter.Reads as quarter-reads
-use Rattle.checking.proofs.checker.Checker.stopped.Reads as stopped-reads
-use Rattle.settlement.proofs.run.Run.sample.Reads as sample-reads
-use Rattle.vocabulary.proofs.refusal.Refusal.number.Reads as number-reads
 
--- src/checker.rt:172:13
 sample-requires : tie.Need-sample-requires
 sample-requires c κs = search needs
 
--- src/checker.rt:174:12
 number-requires : tie.Need-number-requires
 number-requires c κs = search needs
 
--- src/checker.rt:175:13
 stopped-requires : tie.Need-stopped-requires
 stopped-requires c κs = search needs
 
--- src/checker.rt:175:13
 returns : tie.Need-returns
 unfolding sampleTurn
 returns c =
     λ shares. rw (some-refused (c .before .before .number .ensures) (ap (λ (a : Answer). a .refusal) (c .before .before .before .sample .ensures)) (c .before .if1 .taken), c .stopped .ensures, c .before .before .before .sample .ensures)
 
--- src/checker.rt:177:9
 quarter-requires : tie.Need-quarter-requires
 quarter-requires c κs = search needs
 
--- src/checker.rt:163:5
 same-length : tie.Need-same-length
 same-length c = search needs
 
--- src/checker.rt:163:5
 same-length-2 : tie.Need-same-length-2
 same-length-2 c = search needs
 
--- src/checker.rt:163:5
 returns-2 : tie.Need-returns-2
 unfolding sampleTurn
 returns-2 c =

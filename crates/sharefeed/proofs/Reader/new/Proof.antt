@@ -1,0 +1,20 @@
+-- `sharefeed::Reader::new` meets its contract. Assumes nothing.
+use Rattle.sharefeed.specs.Reader.{emptyReader}
+use borrow.Author.Needs.{needs}
+use Rattle.sharefeed.proofs.Reader.new.Statement.{statement}
+use Rattle.sharefeed.proofs.Reader.new.Tie as tie
+use Rattle.checking.proofs.checker.Checker.new.Reads as checker-Checker-new-reads
+use Rattle.lines.proofs.Gatherer.new.Reads as Gatherer-new-reads
+
+new-requires : tie.Need-new-requires
+new-requires c κs = search needs
+
+new-requires-2 : tie.Need-new-requires-2
+new-requires-2 c κs = search needs
+
+returns : tie.Need-returns
+unfolding emptyReader
+returns c = rw (c .before .new .ensures, c .new2 .ensures)
+
+pub new-spec : {M : Type 1} → statement M
+new-spec = tie.close (tie.spec new-requires new-requires-2 returns)

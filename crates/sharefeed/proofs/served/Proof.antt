@@ -1,0 +1,45 @@
+-- `sharefeed::served` meets its contract. Assumes nothing.
+use borrow.Author.Needs.{needs}
+use Rattle.sharefeed.proofs.served.Statement.{statement}
+use Rattle.sharefeed.proofs.served.Tie as tie
+
+bytes-requires : tie.Need-bytes-requires
+bytes-requires c κs = search needs
+
+count-requires : tie.Need-count-requires
+count-requires c κs = search needs
+
+slice-aggregate-told : tie.Need-slice-aggregate-told
+slice-aggregate-told c = search needs
+
+length-requires : tie.Need-length-requires
+length-requires c κs = search needs
+
+told-requires : tie.Need-told-requires
+told-requires c κs = search needs
+
+same-length : tie.Need-same-length
+same-length c = search needs
+
+same-length-2 : tie.Need-same-length-2
+same-length-2 c = search needs
+
+same-length-3 : tie.Need-same-length-3
+same-length-3 c = search needs
+
+returns : tie.Need-returns
+returns c = rw (← c .before .before .before .before .before .before .before .before .before .before .before .bytes .ensures, ← c .before .before .before .before .before .before .before .before .before .before .count .ensures, ← c .before .before .before .before .before .before .before .before .length .ensures) (c .before .before .before .before .told .ensures)
+
+pub served-spec : {M : Type 1} → statement M
+served-spec =
+    tie.close
+    (tie.spec
+    bytes-requires
+    count-requires
+    slice-aggregate-told
+    length-requires
+    told-requires
+    same-length
+    same-length-2
+    same-length-3
+    returns)
