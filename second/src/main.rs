@@ -1,12 +1,14 @@
 //! Settles the secondary control energy of one pool: reads a text on standard
 //! input and prints the settlement sheet. With the argument `mend` it reads a
-//! recording with holes instead and prints its mended samples; with `calls` it
-//! reads a script of library calls and prints what they answer; with `channel`
-//! it prints the figures the channel is checked by.
+//! recording with holes instead and prints its mended samples; with `checker` it
+//! reads an input that the operator's shares follow and says whether they hold;
+//! with `calls` it reads a script of library calls and prints what they answer;
+//! with `channel` it prints the figures the channel is checked by.
 
 mod amounts;
 mod calls;
 mod channel;
+mod checker;
 mod date;
 mod mend;
 mod run;
@@ -26,12 +28,13 @@ fn main() -> ExitCode {
     let printed = match arguments.as_slice() {
         [] => read_input().map(|input| settled(&input)),
         [mode] if mode == "mend" => read_input().map(|recording| mend::mended(&recording)),
+        [mode] if mode == "checker" => read_input().map(|input| checker::verdict(&input)),
         [mode] if mode == "calls" => read_input().and_then(|script| calls::answers(&script)),
         [mode] if mode == "channel" => Ok(channel_figures()),
         _ => {
             complain(
-                "usage: second < input, second mend < recording, second calls < script, \
-                 or second channel",
+                "usage: second < input, second mend < recording, second checker < input, \
+                 second calls < script, or second channel",
             );
             return ExitCode::from(2);
         }

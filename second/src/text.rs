@@ -24,6 +24,24 @@ pub enum Line<'a> {
     End,
 }
 
+/// A share of the surplus that the operator gives a contract in a quarter hour;
+/// nothing in it has been checked.
+#[derive(Clone, Copy, Debug, PartialEq, Eq)]
+pub struct OperatorShare<'a> {
+    pub quarter_hour: i32,
+    pub direction: Direction,
+    pub identifier: &'a [u8],
+    /// In kWh.
+    pub share: i32,
+}
+
+/// A well-formed line of an input that the operator's shares follow.
+#[derive(Clone, Copy, Debug, PartialEq, Eq)]
+pub enum CheckedLine<'a> {
+    OfInput(Line<'a>),
+    Share(OperatorShare<'a>),
+}
+
 /// A line of the archive: a sample, and the second that it is of, counted from
 /// the start of the stretch; nothing in it has been checked.
 #[derive(Clone, Copy, Debug, PartialEq, Eq)]
@@ -97,6 +115,22 @@ pub fn read_recording_line(line: &[u8]) -> Option<RecordingLine> {
         b"E" => exactly(fields).map(|[]| RecordingLine::End),
         _ => None,
     }
+}
+
+/// Reads a line of an input that the operator's shares follow, or gives nothing
+/// if it is ill-formed.
+pub fn read_checked_line(line: &[u8]) -> Option<CheckedLine<'_>> {
+    let (first, fields) = fields_of(line)?;
+    if first != b"U" {
+        return read_line(line).map(CheckedLine::OfInput);
+    }
+    let [quarter_hour, direction, identifier, share] = exactly(fields)?;
+    Some(CheckedLine::Share(OperatorShare {
+        quarter_hour: read_number(quarter_hour)?,
+        direction: read_direction(direction)?,
+        identifier,
+        share: read_number(share)?,
+    }))
 }
 
 fn read_sample(setpoint: &[u8], actual: &[u8]) -> Option<Sample> {
@@ -439,6 +473,45 @@ mod tests {
         assert_eq!(read(&long), None);
         // And the other way round.
         assert!(!is_well_formed("G\t0\t0\t0"));
+    }
+
+    #[test]
+    fn lines_with_shares() {
+        let read = |line: &'static str| read_checked_line(line.as_bytes());
+        let share = |quarter_hour, direction, identifier, share| {
+            Some(CheckedLine::Share(OperatorShare {
+                quarter_hour,
+                direction,
+                identifier,
+                share,
+            }))
+        };
+        assert_eq!(
+            read("U\t0\tP\tA1\t44"),
+            share(0, Direction::Positive, b"A1", 44)
+        );
+        assert_eq!(
+            read("U\t-999999999\tN\t\t-1"),
+            share(-999_999_999, Direction::Negative, b"", -1)
+        );
+        assert_eq!(read("E"), Some(CheckedLine::OfInput(Line::End)));
+        for line in [
+            "U",
+            "U\t0\tP\tA1",
+            "U\t0\tP\tA1\t1\t",
+            "U\t0\tQ\tA1\t1",
+            "U\t\tP\tA1\t1",
+            "U\t0\tP\tA1\t",
+            "U\t0\tP\tA1\t1000000000",
+            "U\t00\tP\tA1\t1",
+            "u\t0\tP\tA1\t1",
+            "G\t0\t0\t0",
+            "",
+        ] {
+            assert_eq!(read(line), None, "{line:?}");
+        }
+        // What is settled has no such line.
+        assert!(!is_well_formed("U\t0\tP\tA1\t44"));
     }
 
     #[test]
