@@ -4,10 +4,11 @@
 #
 #   compare.sh COMMAND COUNT [FIRST_SEED]          inputs of the settling program
 #   compare.sh mend COMMAND COUNT [FIRST_SEED]     recordings for the program that mends them
+#   compare.sh checker COMMAND COUNT [FIRST_SEED]  inputs with the operator's shares, for the program that checks them
 #   compare.sh calls COMMAND COUNT [FIRST_SEED]    scripts of library calls
 #
-# COMMAND reads an input on standard input and prints a sheet, or reads a recording and prints it mended, or reads a script and prints what the
-# calls answer; it may have arguments and is given in quotes. The seeds run from FIRST_SEED (1) on. What the two differ on is kept in the folder named by DIFFERING (differing, in the folder
+# COMMAND reads an input on standard input and prints a sheet, or reads a recording and prints it mended, or reads an input with shares and prints
+# the verdict, or reads a script and prints what the calls answer; it may have arguments and is given in quotes. The seeds run from FIRST_SEED (1) on. What the two differ on is kept in the folder named by DIFFERING (differing, in the folder
 # the script is called in) with both answers beside it. A command that is ended by a signal, or runs for more than a minute, counts as differing.
 # The exit status is 0 if all agree, 1 if any differ, 2 if nothing could be run.
 set -u
@@ -15,13 +16,13 @@ set -u
 # Both programs take the same word for what is compared: none for inputs.
 words=()
 case ${1:-} in
-    mend | calls)
+    mend | checker | calls)
         words=("$1")
         shift
         ;;
 esac
 if [ $# -lt 2 ] || [ $# -gt 3 ]; then
-    echo "usage: compare.sh [mend|calls] COMMAND COUNT [FIRST_SEED]" >&2
+    echo "usage: compare.sh [mend|checker|calls] COMMAND COUNT [FIRST_SEED]" >&2
     exit 2
 fi
 command=$1
@@ -45,6 +46,8 @@ generate=$(target "$here/generate" generate)
 work=$(mktemp -d) || exit 2
 trap 'rm -rf "$work"' EXIT
 
+# What a seed gives.
+generated() { "$generate" "${words[@]}" "$1"; }
 # What has to be listed of an answer, all of it or a part.
 listed() { cat; }
 # The number of the refusal that an answer ends in, 0 where nothing was refused.
@@ -68,6 +71,15 @@ case ${words[*]:-settle} in
         accepted="mended to the end"
         numbers=({1..5} {13..15} {19..21})
         kinds() { sed -n 's/^X\t.*\t/mark /p; s/^S\t.*/samples/p' "$1"; }
+        ;;
+    checker)
+        examples=("$here/../examples/operator.txt")
+        listing() { echo "${1%.txt}.verdict"; }
+        # the shares go by the sheet of the input, which the second program settles
+        generated() { "$generate" checker "$1" | "$second" | "$generate" checker "$1" shares; }
+        accepted="verdicts"
+        numbers=({1..15} 17 18 22)
+        kinds() { sed -n 's/^A\t.*/verdict A/p; s/^F\t.*\t/verdict F, /p' "$1"; }
         ;;
     calls)
         examples=("$here/../crates/calls/stdin")
@@ -108,7 +120,7 @@ done
 
 for ((done = 1; done <= count; done++)); do
     seed=$((first + done - 1))
-    "$generate" "${words[@]}" "$seed" >"$work/input" || exit 2
+    generated "$seed" >"$work/input" || exit 2
     if ! agree; then
         differ=$((differ + 1))
         keep_input "$seed"

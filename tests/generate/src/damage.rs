@@ -146,7 +146,7 @@ const OTHER_DIRECTIONS: &[&[u8]] = &[
     b"", b"X", b"p", b"n", b"PN", b"PP", b"P ", b" N", b"\0", b"P\0", b"N\r", b"0", b"-", b"S",
     b"\xd0",
 ];
-const ILL_FORMED_IDENTIFIERS: &[&[u8]] = &[
+pub const ILL_FORMED_IDENTIFIERS: &[&[u8]] = &[
     b"",
     b" ",
     b"A B",
@@ -400,7 +400,7 @@ fn any_block_line(random: &mut Random) -> Vec<u8> {
 }
 
 /// A line of any kind, good in itself or not.
-fn any_line(random: &mut Random, lines: &Lines) -> Vec<u8> {
+pub fn any_line(random: &mut Random, lines: &Lines) -> Vec<u8> {
     match random.below(8) {
         0 => {
             let mut header = lines[0].clone();
@@ -721,7 +721,7 @@ fn place(random: &mut Random, lines: &Lines) -> usize {
     }
 }
 
-fn spoil_field(random: &mut Random, line: &mut Vec<u8>) {
+pub fn spoil_field(random: &mut Random, line: &mut Vec<u8>) {
     let mut fields: Vec<Vec<u8>> = line
         .split(|&byte| byte == b'\t')
         .map(<[u8]>::to_vec)
@@ -734,8 +734,8 @@ fn spoil_field(random: &mut Random, line: &mut Vec<u8>) {
     let lists: &[&[&[u8]]] = match (fields[0].as_slice(), place) {
         (_, 0) => &[FIRST_FIELDS],
         (b"D", 1) => &[ILL_FORMED_DATES, WELL_FORMED_DATES, WELL_FORMED_DATES],
-        (b"C", 1) => &[OTHER_DIRECTIONS],
-        (b"C", 2) => &[ILL_FORMED_IDENTIFIERS, ODD_IDENTIFIERS],
+        (b"C", 1) | (b"U", 2) => &[OTHER_DIRECTIONS],
+        (b"C", 2) | (b"U", 3) => &[ILL_FORMED_IDENTIFIERS, ODD_IDENTIFIERS],
         (b"O", _) => &[ILL_FORMED_NUMBERS, WELL_FORMED_NUMBERS, LONG_NUMBERS],
         _ => &[ILL_FORMED_NUMBERS, WELL_FORMED_NUMBERS],
     };

@@ -6,7 +6,10 @@
 //! run that is cut in two, where PART is `first`, `second` (to which the carry
 //! block that the first printed is still to be put) or `both`. `generate mend
 //! SEED` writes a recording for the program that mends, `generate archive` a
-//! whole day of one, and `generate calls SEED` a script of library calls.
+//! whole day of one. `generate checker SEED` writes an input that the operator's
+//! shares are to follow, and `generate checker SEED shares`, which reads the
+//! sheet of that input, the input with the shares. `generate calls SEED` writes
+//! a script of library calls.
 
 mod block;
 mod calls;
@@ -17,9 +20,10 @@ mod join;
 mod plan;
 mod random;
 mod recording;
+mod shares;
 
 use std::env;
-use std::io::{self, Write};
+use std::io::{self, Read, Write};
 use std::process::ExitCode;
 
 use day::{Shape, SHAPES};
@@ -35,6 +39,8 @@ fn main() -> ExitCode {
         [mode, seed, part] if mode == "join" => part_of_join(seed, part),
         [mode, seed] if mode == "mend" => seed.parse().ok().map(recording::recording),
         [mode] if mode == "archive" => Some(recording::archive()),
+        [mode, seed] if mode == "checker" => seed.parse().ok().map(shares::input),
+        [mode, seed, part] if mode == "checker" && part == "shares" => with_shares(seed),
         [mode, seed] if mode == "calls" => seed.parse().ok().map(calls::script),
         [seed] => seed.parse().ok().map(input),
         _ => None,
@@ -51,7 +57,8 @@ fn main() -> ExitCode {
 fn usage() -> ExitCode {
     let _ = writeln!(
         io::stderr(),
-        "usage: generate SEED, generate mend SEED, generate archive, generate calls SEED, \
+        "usage: generate SEED, generate mend SEED, generate archive, generate checker SEED, \
+         generate checker SEED shares < sheet, generate calls SEED, \
          generate join SEED first|second|both, or generate day INTERVAL CONTRACTS [walk|calm|steps [NUMBER]]"
     );
     ExitCode::from(2)
@@ -83,39 +90,51 @@ fn part_of_join(seed: &str, part: &str) -> Option<Vec<u8>> {
     Some(written(&lines))
 }
 
+/// The input of a seed with the operator's shares, which go by its sheet on
+/// standard input.
+fn with_shares(seed: &str) -> Option<Vec<u8>> {
+    let mut sheet = Vec::new();
+    io::stdin().lock().read_to_end(&mut sheet).ok()?;
+    Some(shares::with_shares(seed.parse().ok()?, &sheet))
+}
+
 /// The input of a seed.
 fn input(seed: u64) -> Vec<u8> {
     let mut random = Random::new(seed);
-    let mut plan = Plan::random(&mut random);
+    let plan = Plan::random(&mut random);
     if random.once_in(2) {
         return written(&plan.lines());
     }
+    spoilt(&mut random, plan)
+}
 
+/// An input with faults.
+fn spoilt(random: &mut Random, mut plan: Plan) -> Vec<u8> {
     // Mostly one fault, so that it is the one that is found.
     let faults = random.pick(&[1, 1, 1, 2, 3]);
     let kinds: Vec<usize> = (0..faults).map(|_| random.below(11)).collect();
     for _ in kinds.iter().filter(|kind| (0..3).contains(*kind)) {
-        damage::spoil_plan(&mut random, &mut plan);
+        damage::spoil_plan(random, &mut plan);
     }
     for _ in kinds.iter().filter(|kind| (7..9).contains(*kind)) {
-        damage::spoil_block(&mut random, &mut plan);
+        damage::spoil_block(random, &mut plan);
     }
     // Now and then none, so that its lines come where there is no block.
     if kinds.contains(&9) {
-        damage::some_block(&mut random, &mut plan);
+        damage::some_block(random, &mut plan);
     }
     let mut lines = plan.lines();
     for _ in kinds.iter().filter(|kind| (9..11).contains(*kind)) {
-        damage::spoil_block_lines(&mut random, &mut lines);
+        damage::spoil_block_lines(random, &mut lines);
     }
     for _ in kinds.iter().filter(|kind| (3..6).contains(*kind)) {
         if !lines.is_empty() {
-            damage::spoil_lines(&mut random, &mut lines);
+            damage::spoil_lines(random, &mut lines);
         }
     }
     let mut text = written(&lines);
     for _ in kinds.iter().filter(|kind| **kind == 6) {
-        damage::spoil_bytes(&mut random, &mut text);
+        damage::spoil_bytes(random, &mut text);
     }
     text
 }

@@ -40,6 +40,33 @@ impl Plan {
         Plan::with_header(random, header)
     }
 
+    /// A plan whose quarter hours have gaps of several contracts and a surplus to
+    /// share among them, in one direction or now in one and then in the other.
+    pub fn with_gaps(random: &mut Random) -> Plan {
+        let mut header = header(random);
+        header.quarter_hours = random.pick(&[1, 1, 1, 2, 2, 4]);
+        let per_quarter_hour = (900 / header.interval) as usize;
+        let count = per_quarter_hour * header.quarter_hours as usize;
+        let (mut contracts, mut samples) = tolerance_fan(random, count);
+        if random.once_in(2) {
+            let (others, other_samples) = other_way(&contracts, tolerance_fan(random, count));
+            contracts.extend(others);
+            mix_directions(random, &mut contracts);
+            let quarters = samples.chunks_mut(per_quarter_hour);
+            for (quarter, other) in quarters.zip(other_samples.chunks(per_quarter_hour)) {
+                if random.once_in(2) {
+                    quarter.copy_from_slice(other);
+                }
+            }
+        }
+        Plan {
+            header,
+            block: None,
+            contracts,
+            samples,
+        }
+    }
+
     /// A plan with contracts and samples for a header, and about as often as
     /// not with a block: its setpoints then lead up to the samples.
     pub fn with_header(random: &mut Random, header: Header) -> Plan {
@@ -352,6 +379,31 @@ fn tolerance_fan(random: &mut Random, count: usize) -> (Vec<Contract>, Vec<(i64,
             (sign * level, sign * actual)
         })
         .collect();
+    (contracts, samples)
+}
+
+/// Contracts and samples in the direction that the others do not have, with
+/// identifiers of their own.
+fn other_way(
+    others: &[Contract],
+    (mut contracts, mut samples): (Vec<Contract>, Vec<(i64, i64)>),
+) -> (Vec<Contract>, Vec<(i64, i64)>) {
+    let same = others[0].direction == contracts[0].direction;
+    for contract in &mut contracts {
+        contract.identifier.insert(0, b'-');
+        if same {
+            contract.direction = if contract.direction == b'P' {
+                b'N'
+            } else {
+                b'P'
+            };
+        }
+    }
+    if same {
+        for sample in &mut samples {
+            *sample = (-sample.0, -sample.1);
+        }
+    }
     (contracts, samples)
 }
 
