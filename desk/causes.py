@@ -31,6 +31,9 @@ def _known_to(program):
         # imported here, since it takes some of the causes that stand here
         from desk import recordings
         return recordings.CAUSES, recordings.Before
+    if program == "checker":
+        from desk import behind
+        return behind.CAUSES, behind.Before
     return CAUSES, Before
 
 
@@ -163,15 +166,17 @@ def _too_many_contracts(line, before):
     return Cause(1, f"direction {direction.decode()} has {count} contracts already", None)
 
 
-def _identifier(line, _before):
-    data = line.text.split(b"\t")[2]
+def identifier(line, _before):
+    """an identifier that is empty, too long or of other signs; on a U line one field comes before it more"""
+    place = 3 if line.text[:1] == b"U" else 2
+    data = line.text.split(b"\t")[place]
     if not data:
-        return Cause(2, "the identifier is empty", "name the contract")
+        return Cause(place, "the identifier is empty", "name the contract")
     if len(data) > IDENTIFIER_LIMIT:
-        return Cause(2, f"it has {len(data)} bytes, and at most {IDENTIFIER_LIMIT} are allowed", "shorten it")
+        return Cause(place, f"it has {len(data)} bytes, and at most {IDENTIFIER_LIMIT} are allowed", "shorten it")
     strange = re.search("[^A-Za-z0-9-]", data.decode("utf-8", "surrogateescape"))[0]
     shown = visible(strange.encode("utf-8", "surrogateescape"))
-    return Cause(2, f"the sign {shown} is in it; A-Z, a-z, 0-9 and hyphen are allowed", "write another sign for it")
+    return Cause(place, f"the sign {shown} is in it; A-Z, a-z, 0-9 and hyphen are allowed", "write another sign for it")
 
 
 def _taken(line, before):
@@ -235,5 +240,5 @@ def _no_last_line(line, before):
                  "see that the input is whole, and ends with a line E")
 
 
-CAUSES = {1: _wrong_moment, 4: date, 6: _too_many_contracts, 7: _identifier, 8: _taken, 10: _awards, 12: _price,
+CAUSES = {1: _wrong_moment, 4: date, 6: _too_many_contracts, 7: identifier, 8: _taken, 10: _awards, 12: _price,
           13: power, 15: _no_end, 17: _block_length, 18: _block_value}

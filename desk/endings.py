@@ -1,6 +1,6 @@
 """How a run of the front end ends: one table of exit statuses, and the exceptions that lead there."""
 
-ACCEPTED, REFUSED, TROUBLE, NOT_BUILT, CHANGED, LEFT_ALONE = range(6)
+ACCEPTED, REFUSED, TROUBLE, NOT_BUILT, CHANGED, LEFT_ALONE, DO_NOT_HOLD = range(7)
 
 STATUSES = (
     (ACCEPTED, "done: the input was accepted"),
@@ -9,6 +9,7 @@ STATUSES = (
     (NOT_BUILT, "not built: no toolchain, a proof that fails, or a folder that can't be written to"),
     (CHANGED, "a sheet was changed after it was printed: explain found a difference above the bound"),
     (LEFT_ALONE, "a sheet that was there differs from what its input settles to: year left it alone"),
+    (DO_NOT_HOLD, "the operator's shares do not hold: shares says in which quarter hour and direction, and why"),
 )
 
 

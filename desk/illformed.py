@@ -19,6 +19,7 @@ ELSEWHERE = {
     **dict.fromkeys(KINDS, ("an input", "give the recording as the archive has it; contracts come in by mend --into")),
     **dict.fromkeys((b"V", b"Q", b"K", b"T", b"R"), ("a sheet", "give the input that the sheet was made from")),
     b"G": ("a recording", "mend it first: fireboxer mend --into CONTRACTS RECORDING prints an input"),
+    b"U": ("the operator's shares", "put the shares behind E, where fireboxer shares checks them"),
     b"X": ("a mended recording", "mend it with --into CONTRACTS, which prints an input without the marks"),
 }
 

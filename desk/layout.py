@@ -24,9 +24,17 @@ RECORDING = {
     b"E": KINDS[b"E"],
 }
 
+# the kinds of lines of an input that the operator's shares follow
+WITH_SHARES = {
+    **KINDS,
+    b"U": Kind("share", (Field("quarter hour", "number"), Field("direction", "direction"),
+                         Field("identifier", "identifier"), Field("share in kWh", "number"))),
+}
+
 # what a program reads, by its name: what that is called, and its kinds of lines
 Text = collections.namedtuple("Text", "name kinds")
-READS = {"settle": Text("an input", KINDS), "mend": Text("a recording", RECORDING)}
+READS = {"settle": Text("an input", KINDS), "mend": Text("a recording", RECORDING),
+         "checker": Text("an input with shares", WITH_SHARES)}
 
 # the kinds of lines of a carry block, and how many B lines it has, by the interval in seconds
 BLOCK = (b"O", b"B")

@@ -6,7 +6,7 @@ from desk.endings import ACCEPTED
 from desk.places import ROOT
 from desk.streams import print_out
 
-PROGRAMS = ("settle", "mend")
+PROGRAMS = ("settle", "mend", "checker")
 
 
 def tell():
