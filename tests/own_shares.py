@@ -7,8 +7,13 @@ COMMAND reads an input with shares on standard input and prints the verdict, SET
 both may have arguments and are given in quotes, and the word `second` is the second program. The inputs are the
 examples and COUNT that are settled to the end, those of `generate checker SEED` from FIRST_SEED (1) on; damaged ones
 are passed over. What is not accepted is kept in the folder named by DIFFERING (differing, in the folder the script is
-called in). The exit status is 0 if all are accepted, 1 if not, 2 if nothing could be run.""" import itertools import os
-import pathlib import shlex import subprocess import sys
+called in). The exit status is 0 if all are accepted, 1 if not, 2 if nothing could be run."""
+import itertools
+import os
+import pathlib
+import shlex
+import subprocess
+import sys
 
 from join import HERE, built, settled
 

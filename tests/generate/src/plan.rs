@@ -47,9 +47,10 @@ impl Plan {
         header.quarter_hours = random.pick(&[1, 1, 1, 2, 2, 4]);
         let per_quarter_hour = (900 / header.interval) as usize;
         let count = per_quarter_hour * header.quarter_hours as usize;
-        let (mut contracts, mut samples) = tolerance_fan(random, count);
+        let fan = random.pick(&[tolerance_fan, gap_fan, gap_fan, gap_fan]);
+        let (mut contracts, mut samples) = fan(random, count);
         if random.once_in(2) {
-            let (others, other_samples) = other_way(&contracts, tolerance_fan(random, count));
+            let (others, other_samples) = other_way(&contracts, fan(random, count));
             contracts.extend(others);
             mix_directions(random, &mut contracts);
             let quarters = samples.chunks_mut(per_quarter_hour);
@@ -377,6 +378,43 @@ fn tolerance_fan(random: &mut Random, count: usize) -> (Vec<Contract>, Vec<(i64,
                 above
             };
             (sign * level, sign * actual)
+        })
+        .collect();
+    (contracts, samples)
+}
+
+/// A base contract up to the tolerance and many small ones above it, with gaps
+/// of some kWh each and mostly less surplus than they would take: the kWh that
+/// rounding leaves over can go to several of them.
+fn gap_fan(random: &mut Random, count: usize) -> (Vec<Contract>, Vec<(i64, i64)>) {
+    let direction = random.pick(b"PN");
+    let sign = if direction == b'P' { 1 } else { -1 };
+    let few = random.between(2, 8);
+    let small = random.pick(&[few, few, few, 31]);
+    let slice = random.pick(&[4, 8, 20, 60, 300]);
+    let level = 20 * small * slice + random.between(0, 60);
+    let equal = random.once_in(3);
+    let award_of = |random: &mut Random, number: i64| match number {
+        0 => level * 19 / 20 + random.between(-2, 2),
+        _ if equal => slice,
+        _ => random.between(1, 2 * slice),
+    };
+    let contracts = (0..=small).map(|number| Contract {
+        direction,
+        identifier: format!("gap-{number}").into_bytes(),
+        award: award_of(random, number),
+        price: 100 * number,
+    });
+    let contracts = contracts.collect();
+    let (below, above) = (
+        level - random.between(level / 40, level / 20),
+        level + random.between(1, level / 20),
+    );
+    let part_below = random.between(40, 95) as usize;
+    let samples = (0..count)
+        .map(|place| {
+            let short = place % 100 < part_below;
+            (sign * level, sign * if short { below } else { above })
         })
         .collect();
     (contracts, samples)

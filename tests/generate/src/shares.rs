@@ -78,11 +78,11 @@ pub fn with_shares(seed: u64, sheet: &[u8]) -> Vec<u8> {
 fn begun(seed: u64) -> (Random, Vec<u8>) {
     let mut random = Random::new(seed);
     let text = match random.below(12) {
-        0 | 1 => {
+        0..=2 => {
             let plan = Plan::random(&mut random);
             spoilt(&mut random, plan)
         }
-        2..=4 => written(&Plan::random(&mut random).lines()),
+        3 => written(&Plan::random(&mut random).lines()),
         _ => written(&Plan::with_gaps(&mut random).lines()),
     };
     (random, text)
@@ -172,15 +172,28 @@ impl Side {
         }
     }
 
+    /// Two contracts, mostly with gaps and not the same.
+    fn two(&self, random: &mut Random) -> (usize, usize) {
+        let all = 0..self.shares.len();
+        let with_gap: Vec<usize> = all.filter(|&place| self.shares[place].gap > 0).collect();
+        if with_gap.len() < 2 || random.once_in(4) {
+            let count = self.shares.len();
+            return (random.below(count), random.below(count));
+        }
+        let one = random.below(with_gap.len());
+        let other = (one + 1 + random.below(with_gap.len() - 1)) % with_gap.len();
+        (with_gap[one], with_gap[other])
+    }
+
     /// Spoils the shares, or moves them so that they may still hold.
     fn spoil(&mut self, random: &mut Random) {
-        let one = random.below(self.shares.len());
-        let other = random.below(self.shares.len());
+        let (one, other) = self.two(random);
         match random.below(12) {
-            // One kWh from one to another.
+            // A little from one to another.
             0..=3 => {
-                self.shares[one].share -= 1;
-                self.shares[other].share += 1;
+                let little = random.pick(&[1, 1, 1, 2]);
+                self.shares[one].share -= little;
+                self.shares[other].share += little;
             }
             // The sum is off by one.
             4 | 5 => self.shares[one].share += random.pick(&[-1, 1]),
