@@ -8,7 +8,8 @@ Refusal = collections.namedtuple("Refusal", "number case ground remedy")
 REFUSALS = (
     Refusal(1, "WrongMoment",
             "wrong moment: a contract after the first sample, a second header, anything else before the header, "
-            "an end before the last sample, a sample after it, a line of a carry block anywhere but after the header",
+            "an end before the last sample, a sample after it, a line of a carry block anywhere but after the header; "
+            "(shares) anything else than a U line after the end",
             "put the lines in order: one D line, the carry block where there is one, the C lines, all the S lines of "
             "all the quarter hours, E"),
     Refusal(2, "BadInterval",
