@@ -4,6 +4,7 @@ use Rattle.binding.specs.Single.{Single}
 use Rattle.contracts.proofs.book.no_contract.Reads as no-contract
 use Rattle.contracts.proofs.book.Book.contracts.Reads as contracts
 use Rattle.contracts.proofs.book.Book.count.Reads as count
+use Rattle.contracts.proofs.book.Book.names.Reads as names
 use Rattle.contracts.proofs.books.Books.new.Reads as new
 use Rattle.contracts.proofs.books.Books.book.Reads as book
 use Rattle.contracts.proofs.books.Books.refusal.Reads as refusal
@@ -45,3 +46,6 @@ terms-single κs a r r′ x x′ p q = p ∙ sym q
 
 limits-single : Single limits.Post
 limits-single κs a r r′ x x′ p q = p ∙ sym q
+
+names-single : Single names.Post
+names-single κs a r r′ x x′ p q = p ∙ sym q

@@ -20,3 +20,5 @@ mod Text
 mod Samples
 mod Feed
 mod Mending
+mod Checking
+mod Sharefeed

@@ -11,6 +11,8 @@ use Rattle.reading.proofs.end_line.Reads as end-line
 use Rattle.reading.proofs.identifier.Reads as identifier
 use Rattle.reading.proofs.read.Reads as read
 use Rattle.reading.proofs.entry.read_entry.Reads as read-entry
+use Rattle.reading.proofs.share.whose.Reads as whose
+use Rattle.reading.proofs.share.read_asked.Reads as read-asked
 
 header-line-single : Single header-line.Post
 header-line-single κs a r r′ x x′ p q = p ∙ sym q
@@ -38,3 +40,9 @@ read-single κs a r r′ x x′ p q = p ∙ sym q
 
 read-entry-single : Single read-entry.Post
 read-entry-single κs a r r′ x x′ p q = p ∙ sym q
+
+whose-single : SingleIn (λ κs r. now r) whose.Post
+whose-single κs a r r′ x x′ p q = p ∙ sym q
+
+read-asked-single : Single read-asked.Post
+read-asked-single κs a r r′ x x′ p q = p ∙ sym q

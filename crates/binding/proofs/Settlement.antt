@@ -12,6 +12,7 @@ use Rattle.settlement.proofs.run.Run.room.Reads as room
 use Rattle.settlement.proofs.run.Run.take.Reads as take
 use Rattle.settlement.proofs.run.Run.end.Reads as end
 use Rattle.settlement.proofs.run.Run.heading.Reads as heading
+use Rattle.settlement.proofs.run.Run.lacks.Reads as lacks
 use Rattle.settlement.proofs.grounds.open_refusal.Reads as open-refusal
 use Rattle.settlement.proofs.plan.interval_of.Reads as interval-of
 
@@ -53,3 +54,6 @@ open-refusal-single κs a r r′ x x′ p q = p ∙ sym q
 
 interval-of-single : Single interval-of.Post
 interval-of-single κs a r r′ x x′ p q = p ∙ sym q
+
+lacks-single : Single lacks.Post
+lacks-single κs a r r′ x x′ p q = p ∙ sym q

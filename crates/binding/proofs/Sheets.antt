@@ -9,6 +9,7 @@ use Rattle.sheets.proofs.print_total.Reads as print-total
 use Rattle.sheets.proofs.print_block.Reads as print-block
 use Rattle.sheets.proofs.print_closing.Reads as print-closing
 use Rattle.sheets.proofs.print_refusal.Reads as print-refusal
+use Rattle.sheets.proofs.verdict.print_verdict.Reads as print-verdict
 use Rattle.sheets.proofs.put_signed.Reads as put-signed
 use Rattle.sheets.proofs.put_refusal.Reads as put-refusal
 
@@ -35,3 +36,6 @@ put-signed-single κs a r r′ x x′ p q = wrote-only (p .text .wrote) (q .text
 
 put-refusal-single : SingleBytes (λ κs x. now (x .0)) put-refusal.Post
 put-refusal-single κs a r r′ x x′ p q = wrote-only (p .wrote) (q .wrote)
+
+print-verdict-single : SingleBytes (λ κs x. now (x .0)) print-verdict.Post
+print-verdict-single κs a r r′ x x′ p q = (p .0 ∙ sym (q .0), p .1 .0 ∙ sym (q .1 .0))
