@@ -39,7 +39,7 @@ fields-more : {f : List ℕ} (rest : List ℕ) → Each Visible f → fields (f 
 fields-more rest of-none = fields-tab 9 rest refl
 fields-more rest (of-more {x = x} {xs = f} v vs) = fields-other x (f ++ (9 ∷ rest)) (λ e. omega arith) ∙ ap (onFirst x) (fields-more rest vs)
 
-fields-back : {f : List ℕ} {fs : List (List ℕ)} → Each Visible f → Each (Each Visible) fs → fields (f ++ tabbed fs) ≡ f ∷ fs
+pub fields-back : {f : List ℕ} {fs : List (List ℕ)} → Each Visible f → Each (Each Visible) fs → fields (f ++ tabbed fs) ≡ f ∷ fs
 unfolding tabbed
 fields-back {f} v of-none = ap fields (append-nil f) ∙ fields-one v
 fields-back {f} v (of-more {x = g} {xs = fs} w ws) = fields-more (g ++ tabbed fs) v ∙ ap (λ (l : List (List ℕ)). f ∷ l) (fields-back w ws)
@@ -65,7 +65,7 @@ line-no-lf : (kind : ℕ) {fs : List (List ℕ)} → Visible kind → Each (Each
 line-no-lf kind v vs = another (not-lf kind v) (tabbed-no-lf vs)
 
 -- so a line that is printed before others is read before them
-line-written : (kind : ℕ) {fs lines : List (List ℕ)} {input : List ℕ} → Visible kind → Each (Each Visible) fs → Written lines input
+pub line-written : (kind : ℕ) {fs lines : List (List ℕ)} {input : List ℕ} → Visible kind → Each (Each Visible) fs → Written lines input
     → Written ((kind ∷ tabbed fs) ∷ lines) (lineText kind fs ++ input)
 unfolding lineText
 line-written kind {fs} {lines} {input} v vs w =

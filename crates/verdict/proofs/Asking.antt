@@ -1,25 +1,25 @@
 -- A line of an input that is settled is read as when it is settled, and a U line is none.
 -- Assumes nothing.
 use Prim.Native.Nat.{ℕ}
-use mathlib.Core.Path.{_≡_, refl, sym, ap, _∙_}
+use mathlib.Core.Path.{_≡_, refl}
 use mathlib.Core.Bool.{Bool, true, false, cond, _&&_}
 use mathlib.Core.List.{List}
 use native.Mathlib.Omega.{arith}
-use borrow.Author.Tests.{eqb-true}
 use lib.Dec.{eqb, ltb}
 use lib.ListN.{length, getD}
+use borrow.Author.Tests.{eqb-true}
 use Rattle.fields.specs.Fields.{fields, fieldAt}
 use Rattle.fields.specs.Numbers.{numberOf}
 use Rattle.fields.specs.declared.number.Number.{Number}
-use Rattle.fields.specs.declared.number.Number.the-variants as N
 use Rattle.reading.specs.Line.{isLetter, kindOf, byKind, directionOf, lineOf}
 use Rattle.reading.specs.declared.DirectionField.{DirectionField}
-use Rattle.reading.specs.declared.DirectionField.the-variants as DF
-use Rattle.reading.specs.declared.Kind.{Kind}
-use Rattle.reading.specs.declared.Kind.the-variants as K
 use Rattle.reading.specs.declared.Line.{Line}
+use Rattle.reading.specs.Share.{shareFields, shareOf, askedOf}
+use Rattle.fields.specs.declared.number.Number.the-variants as N
+use Rattle.reading.specs.declared.DirectionField.the-variants as DF
+use Rattle.reading.specs.declared.Kind.the-variants as K
 use Rattle.reading.specs.declared.Line.the-variants as L
-use Rattle.verdict.specs.Temp.{Asked, Settling, Share, shareFields, shareOf, askedOf}
+use Rattle.reading.specs.declared.share.Asked.the-variants as A
 
 -- ---- one letter and no other
 
@@ -36,15 +36,22 @@ other-letter a b field e n = go (eqb (length field) 1) (eqb (getD field 0 0) a) 
 u-unknown : (field : List ℕ) → isLetter 85 field ≡ true → kindOf field ≡ K.Unknown
 unfolding kindOf
 u-unknown field e =
-    rw (other-letter 85 68 field e refl, other-letter 85 79 field e refl, other-letter 85 66 field e refl, other-letter 85 67 field e refl, other-letter 85 83 field e refl, other-letter 85 69 field e refl)
+    rw (
+      other-letter 85 68 field e refl,
+      other-letter 85 79 field e refl,
+      other-letter 85 66 field e refl,
+      other-letter 85 67 field e refl,
+      other-letter 85 83 field e refl,
+      other-letter 85 69 field e refl,
+    )
 
 -- ---- what a share line that is none says: malformed
 
-share-settles : (fs : List (List ℕ)) (said : Line) → shareOf fs ≡ Settling said → L.Malformed ≡ said
+share-settles : (fs : List (List ℕ)) (said : Line) → shareOf fs ≡ A.Settling said → L.Malformed ≡ said
 unfolding shareOf
 share-settles fs said = go (eqb (length fs) 5) (numberOf (fieldAt 1 fs)) (directionOf (fieldAt 2 fs)) (numberOf (fieldAt 4 fs))
   where
-    go : (t : Bool) (q : Number) (d : DirectionField) (k : Number) → cond t (shareFields q d k) (Settling L.Malformed) ≡ Settling said → L.Malformed ≡ said
+    go : (t : Bool) (q : Number) (d : DirectionField) (k : Number) → cond t (shareFields q d k) (A.Settling L.Malformed) ≡ A.Settling said → L.Malformed ≡ said
     go false q d k e = cc
     go true (N.Value q) (DF.Of d) (N.Value k) e = let z : _≡_ {A = ℕ} 0 1 = cc in absurd (omega arith)
     go true (N.Value q) (DF.Of d) N.Malformed e = cc
@@ -53,24 +60,24 @@ share-settles fs said = go (eqb (length fs) 5) (numberOf (fieldAt 1 fs)) (direct
 
 -- ---- so
 
-pub settling-line : (line : List ℕ) (said : Line) → askedOf line ≡ Settling said → lineOf line ≡ said
+pub settling-line : (line : List ℕ) (said : Line) → askedOf line ≡ A.Settling said → lineOf line ≡ said
 unfolding askedOf lineOf
 settling-line line said = go (ltb 80 (length line)) (isLetter 85 (fieldAt 0 (fields line))) refl
   where
     go : (t u : Bool) → isLetter 85 (fieldAt 0 (fields line)) ≡ u
-        → cond t (Settling L.Malformed) (cond u (shareOf (fields line)) (Settling (cond t L.Malformed (byKind (kindOf (fieldAt 0 (fields line))) (fields line))))) ≡ Settling said
+        → cond t (A.Settling L.Malformed) (cond u (shareOf (fields line)) (A.Settling (cond t L.Malformed (byKind (kindOf (fieldAt 0 (fields line))) (fields line))))) ≡ A.Settling said
         → cond t L.Malformed (byKind (kindOf (fieldAt 0 (fields line))) (fields line)) ≡ said
     go true u p e = cc
     go false true p e = rw (u-unknown (fieldAt 0 (fields line)) p) (share-settles (fields line) said e)
     go false false p e = cc
 
-pub line-settling : (line : List ℕ) → (lineOf line ≡ L.Malformed → ⊥) → askedOf line ≡ Settling (lineOf line)
+pub line-settling : (line : List ℕ) → (lineOf line ≡ L.Malformed → ⊥) → askedOf line ≡ A.Settling (lineOf line)
 unfolding askedOf lineOf
 line-settling line = go (ltb 80 (length line)) (isLetter 85 (fieldAt 0 (fields line))) refl
   where
     go : (t u : Bool) → isLetter 85 (fieldAt 0 (fields line)) ≡ u → (cond t L.Malformed (byKind (kindOf (fieldAt 0 (fields line))) (fields line)) ≡ L.Malformed → ⊥)
-        → cond t (Settling L.Malformed) (cond u (shareOf (fields line)) (Settling (cond t L.Malformed (byKind (kindOf (fieldAt 0 (fields line))) (fields line)))))
-        ≡ Settling (cond t L.Malformed (byKind (kindOf (fieldAt 0 (fields line))) (fields line)))
+        → cond t (A.Settling L.Malformed) (cond u (shareOf (fields line)) (A.Settling (cond t L.Malformed (byKind (kindOf (fieldAt 0 (fields line))) (fields line)))))
+        ≡ A.Settling (cond t L.Malformed (byKind (kindOf (fieldAt 0 (fields line))) (fields line)))
     go true u p n = refl
     go false true p n = absurd (n (rw (u-unknown (fieldAt 0 (fields line)) p)))
     go false false p n = refl

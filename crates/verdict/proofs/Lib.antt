@@ -1,3 +1,10 @@
 pub mod Verdicts
 pub mod Asking
 pub mod Outcomes
+pub mod Inputs
+pub mod Own
+pub mod Gaps
+pub mod Places
+pub mod Judging
+pub mod Program
+pub mod Fed

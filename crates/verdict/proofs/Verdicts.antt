@@ -1,7 +1,7 @@
 -- The verdict on shares: it accepts exactly where all quarter hours and directions are acceptable, and names the first that is not otherwise.
 -- Assumes nothing.
 use Prim.Native.Nat.{ℕ, zero, suc, _<_}
-use mathlib.Core.Path.{_≡_, refl, sym, ap, _∙_}
+use mathlib.Core.Path.{_≡_, refl, sym, _∙_}
 use mathlib.Core.Bool.{Bool, true, false, cond}
 use mathlib.Core.List.{List, [], _∷_, _++_}
 use native.Mathlib.Omega.{arith}
@@ -11,7 +11,8 @@ use Rattle.shares.proofs.Acceptance.{tested-acceptable, acceptable-tested}
 use Rattle.vocabulary.specs.declared.direction.Direction.{Direction}
 use Rattle.vocabulary.specs.declared.direction.Direction.the-variants.{Positive, Negative}
 use Rattle.meaning.specs.Given.{Given, quartersIn}
-use Rattle.verdict.specs.Temp.{Verdict, Accepted, Failing}
+use Rattle.sheets.specs.declared.verdict.Verdict.{Verdict}
+use Rattle.sheets.specs.declared.verdict.Verdict.the-variants.{Accepted, Failing}
 use Rattle.verdict.specs.Wanted.{surplusIn, gapsIn, sharesAt, AcceptableAt, acceptableAt, Side, side, sidesUpTo, firstFailing, verdictOf}
 use Rattle.verdict.specs.Promises.{AllAcceptable, Before, earlier, first, FirstFailing}
 

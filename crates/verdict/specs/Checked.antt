@@ -17,19 +17,23 @@ use Rattle.sheets.specs.Sheet.{letterOf, refusalText}
 use Rattle.lines.specs.Lines.{linesOf}
 use Rattle.reading.specs.Line.{identifierOf}
 use Rattle.reading.specs.declared.Line.{Line}
-use Rattle.reading.specs.declared.Line.the-variants as L
 use Rattle.meaning.specs.Given.{Given}
 use Rattle.meaning.specs.Meaning.{SoFar, nothing, these, lacks, only, grounds, after}
-use Rattle.verdict.specs.Temp.{ShareT, Asked, Settling, Share, askedOf, whoseOf, Verdict, verdictText}
+use Rattle.reading.specs.declared.share.Share.{Share}
+use Rattle.reading.specs.declared.share.Asked.{Asked}
+use Rattle.reading.specs.Share.{askedOf, whoseOf}
+use Rattle.sheets.specs.Verdict.{verdictText}
 use Rattle.verdict.specs.Wanted.{Wanted, wantedIn, verdictOf}
+use Rattle.reading.specs.declared.Line.the-variants as L
+use Rattle.reading.specs.declared.share.Asked.the-variants as A
 
 -- ---- up to E
 
 -- why a line is refused: as when it is settled. A share comes too early: 1 before the header, then 7, 17 while a block lacks setpoints, and 22
 unfoldable pub askedGrounds : SoFar → List ℕ → Asked → List Ground
-askedGrounds so line (Settling said) = grounds so (identifierOf line) said
-askedGrounds nothing line (Share s) = only WrongMoment
-askedGrounds (these g) line (Share s) =
+askedGrounds so line (A.Settling said) = grounds so (identifierOf line) said
+askedGrounds nothing line (A.Share s) = only WrongMoment
+askedGrounds (these g) line (A.Share s) =
     on BadIdentifier (not (wellFormed (whoseOf line)))
     ∷ on BadBlockLength (lacks g)
     ∷ on MisplacedShare true
@@ -40,13 +44,13 @@ askedGround so line asked = first (askedGrounds so line asked)
 
 -- what was given, with a line that is not refused
 abbrev pub afterAsked : SoFar → List ℕ → Asked → SoFar
-afterAsked so line (Settling said) = after so (identifierOf line) said
-afterAsked so line (Share s) = so
+afterAsked so line (A.Settling said) = after so (identifierOf line) said
+afterAsked so line (A.Share s) = so
 
 -- ---- after E
 
 -- a share is the one that is wanted: its quarter hour, its direction, its identifier byte for byte
-unfoldable pub saysFor : Wanted → ShareT → List ℕ → Bool
+unfoldable pub saysFor : Wanted → Share → List ℕ → Bool
 saysFor w s identifier =
     not (ltZ (s .quarter) (pos 0))
     && eqb (up (s .quarter)) (w .quarter)
@@ -54,7 +58,7 @@ saysFor w s identifier =
     && sameBytes identifier (w .identifier)
 
 -- none is wanted any more where the list is at its end
-abbrev pub isNext : List Wanted → ShareT → List ℕ → Bool
+abbrev pub isNext : List Wanted → Share → List ℕ → Bool
 isNext [] s identifier = false
 isNext (w ∷ ws) s identifier = saysFor w s identifier
 
@@ -70,16 +74,16 @@ tooLate L.Malformed = BadLine
 
 -- why a line is refused: a share with 7, and with 22 where another one is wanted, or none
 unfoldable pub shareGrounds : List Wanted → List ℕ → Asked → List Ground
-shareGrounds ws line (Settling said) = only (tooLate said)
-shareGrounds ws line (Share s) = on BadIdentifier (not (wellFormed (whoseOf line))) ∷ on MisplacedShare (not (isNext ws s (whoseOf line))) ∷ []
+shareGrounds ws line (A.Settling said) = only (tooLate said)
+shareGrounds ws line (A.Share s) = on BadIdentifier (not (wellFormed (whoseOf line))) ∷ on MisplacedShare (not (isNext ws s (whoseOf line))) ∷ []
 
 abbrev pub shareGround : List Wanted → List ℕ → Asked → Refusal
 shareGround ws line asked = first (shareGrounds ws line asked)
 
 -- the shares that were said, with a line that is not refused
 abbrev pub withShare : List ℤ → Asked → List ℤ
-withShare shares (Settling said) = shares
-withShare shares (Share s) = shares ++ (s .kwh ∷ [])
+withShare shares (A.Settling said) = shares
+withShare shares (A.Share s) = shares ++ (s .kwh ∷ [])
 
 -- ---- a whole input
 
@@ -107,14 +111,14 @@ afterEnd (these g) n lines = shareLines g (wantedIn g) [] n lines
 
 -- E ends what is settled
 abbrev pub unlessEnd : Asked → Outcome → Outcome → Outcome
-unlessEnd (Settling (L.Header h)) ended rest = rest
-unlessEnd (Settling (L.Bounds bounds)) ended rest = rest
-unlessEnd (Settling (L.Setpoint s)) ended rest = rest
-unlessEnd (Settling (L.Contract c)) ended rest = rest
-unlessEnd (Settling (L.Sample x)) ended rest = rest
-unlessEnd (Settling L.End) ended rest = ended
-unlessEnd (Settling L.Malformed) ended rest = rest
-unlessEnd (Share s) ended rest = rest
+unlessEnd (A.Settling (L.Header h)) ended rest = rest
+unlessEnd (A.Settling (L.Bounds bounds)) ended rest = rest
+unlessEnd (A.Settling (L.Setpoint s)) ended rest = rest
+unlessEnd (A.Settling (L.Contract c)) ended rest = rest
+unlessEnd (A.Settling (L.Sample x)) ended rest = rest
+unlessEnd (A.Settling L.End) ended rest = ended
+unlessEnd (A.Settling L.Malformed) ended rest = rest
+unlessEnd (A.Share s) ended rest = rest
 
 -- up to E, the lines from number n on; 15 where they stop short
 unfoldable pub outcome : SoFar → ℕ → List (List ℕ) → Outcome

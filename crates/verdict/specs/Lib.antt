@@ -1,4 +1,3 @@
-pub mod Temp
 pub mod Wanted
 pub mod Checked
 pub mod Promises

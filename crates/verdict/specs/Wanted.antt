@@ -10,7 +10,8 @@ use Rattle.vocabulary.specs.declared.direction.Direction.{Direction}
 use Rattle.vocabulary.specs.declared.direction.Direction.the-variants.{Positive, Negative}
 use Rattle.meaning.specs.Figures.{gapOfClaim}
 use Rattle.meaning.specs.Given.{Deal, Given, dealsIn, quartersIn, claimsIn, poolIn}
-use Rattle.verdict.specs.Temp.{Verdict, Accepted, Failing}
+use Rattle.sheets.specs.declared.verdict.Verdict.{Verdict}
+use Rattle.sheets.specs.declared.verdict.Verdict.the-variants.{Accepted, Failing}
 
 -- ---- the U lines that are wanted: one for each K line, in the order of the K lines
 
