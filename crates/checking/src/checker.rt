@@ -148,7 +148,8 @@ impl Checker {
 
     // After a sample: the quarter hour is taken if it is full, and what its shares will be looked at against is kept.
     fn quarter(run: Run, gaps: &mut [[u32; 32]], surpluses: &mut [u32]) -> Checker
-        ensures { λ r. ⌜ ((shares : List ℤ) → quarterTurn (keeping (now (gaps .entry)) (now (surpluses .entry)) shares) run ≡ standing r (keeping (now (gaps .exit)) (now (surpluses .exit)) shares)) ⌝ }
+        ensures { λ r. ⌜ ((shares : List ℤ) → quarterTurn (keeping (now (gaps .entry)) (now (surpluses .entry)) shares) run
+            ≡ standing r (keeping (now (gaps .exit)) (now (surpluses .exit)) shares)) ⌝ }
     {
         let taken = run.take();
         let refusal = taken.refusal;
@@ -167,7 +168,8 @@ impl Checker {
         gaps: &mut [[u32; 32]],
         surpluses: &mut [u32],
     ) -> Checker
-        ensures { λ r. ⌜ ((shares : List ℤ) → sampleTurn (keeping (now (gaps .entry)) (now (surpluses .entry)) shares) run number sample ≡ standing r (keeping (now (gaps .exit)) (now (surpluses .exit)) shares)) ⌝ }
+        ensures { λ r. ⌜ ((shares : List ℤ) → sampleTurn (keeping (now (gaps .entry)) (now (surpluses .entry)) shares) run number sample
+            ≡ standing r (keeping (now (gaps .exit)) (now (surpluses .exit)) shares)) ⌝ }
     {
         let answer = run.sample(sample);
         let refusal = answer.refusal;
@@ -201,7 +203,8 @@ impl Checker {
         gaps: &mut [[u32; 32]],
         surpluses: &mut [u32],
     ) -> Checker
-        ensures { λ r. ⌜ ((shares : List ℤ) → nextTurn (keeping (now (gaps .entry)) (now (surpluses .entry)) shares) run number (now (line .entry)) (Asked.Settling said) ≡ standing r (keeping (now (gaps .exit)) (now (surpluses .exit)) shares)) ⌝ }
+        ensures { λ r. ⌜ ((shares : List ℤ) → nextTurn (keeping (now (gaps .entry)) (now (surpluses .entry)) shares) run number (now (line .entry)) (Asked.Settling said)
+            ≡ standing r (keeping (now (gaps .exit)) (now (surpluses .exit)) shares)) ⌝ }
     {
         match said {
             Line::Header(_) => Checker::stopped(run, number, Refusal::WrongMoment),
@@ -227,7 +230,8 @@ impl Checker {
         line: &[u8],
         shares: &mut [i32],
     ) -> Checker
-        ensures { λ r. ⌜ ((gaps : List (List ℕ)) (surpluses : List ℕ) → shareTurn (keeping gaps surpluses (now (shares .entry))) run number given share (whoseOf (now (line .entry))) ≡ standing r (keeping gaps surpluses (now (shares .exit)))) ⌝ }
+        ensures { λ r. ⌜ ((gaps : List (List ℕ)) (surpluses : List ℕ) → shareTurn (keeping gaps surpluses (now (shares .entry))) run number given share (whoseOf (now (line .entry)))
+            ≡ standing r (keeping gaps surpluses (now (shares .exit)))) ⌝ }
     {
         let refusal = share_refusal(run.books(), run.end().quarters, given, share, whose(line));
         if refusal.number() != 0 {
@@ -256,7 +260,8 @@ impl Checker {
         gaps: &mut [[u32; 32]],
         surpluses: &mut [u32],
     ) -> Checker
-        ensures { λ r. ⌜ ((shares : List ℤ) → nextTurn (keeping (now (gaps .entry)) (now (surpluses .entry)) shares) run number (now (line .entry)) (askedOf (now (line .entry))) ≡ standing r (keeping (now (gaps .exit)) (now (surpluses .exit)) shares)) ⌝ }
+        ensures { λ r. ⌜ ((shares : List ℤ) → nextTurn (keeping (now (gaps .entry)) (now (surpluses .entry)) shares) run number (now (line .entry)) (askedOf (now (line .entry)))
+            ≡ standing r (keeping (now (gaps .exit)) (now (surpluses .exit)) shares)) ⌝ }
     {
         let asked = read_asked(line);
         match asked {
@@ -267,7 +272,8 @@ impl Checker {
 
     // A line after E.
     fn asked_later(run: Run, number: u64, given: usize, line: &[u8], shares: &mut [i32]) -> Checker
-        ensures { λ r. ⌜ ((gaps : List (List ℕ)) (surpluses : List ℕ) → laterTurn (keeping gaps surpluses (now (shares .entry))) run number (now (line .entry)) given (askedOf (now (line .entry))) ≡ standing r (keeping gaps surpluses (now (shares .exit)))) ⌝ }
+        ensures { λ r. ⌜ ((gaps : List (List ℕ)) (surpluses : List ℕ) → laterTurn (keeping gaps surpluses (now (shares .entry))) run number (now (line .entry)) given (askedOf (now (line .entry)))
+            ≡ standing r (keeping gaps surpluses (now (shares .exit)))) ⌝ }
     {
         let asked = read_asked(line);
         match asked {
@@ -285,7 +291,8 @@ impl Checker {
         surpluses: &mut [u32],
         shares: &mut [i32],
     ) -> Checker
-        ensures { λ r. ⌜ lineTurn (standing self (keeping (now (gaps .entry)) (now (surpluses .entry)) (now (shares .entry)))) number (now (line .entry)) ≡ standing r (keeping (now (gaps .exit)) (now (surpluses .exit)) (now (shares .exit))) ⌝ }
+        ensures { λ r. ⌜ lineTurn (standing self (keeping (now (gaps .entry)) (now (surpluses .entry)) (now (shares .entry)))) number (now (line .entry))
+            ≡ standing r (keeping (now (gaps .exit)) (now (surpluses .exit)) (now (shares .exit))) ⌝ }
     {
         let stage = self.stage;
         let run = self.run;
@@ -319,7 +326,8 @@ impl Checker {
         shares: &[i32],
         out: &mut [u8],
     ) -> Printed
-        ensures { λ r. ⌜ Told (now (out .entry)) (ruledText run (keeping (now (gaps .entry)) (now (surpluses .entry)) (now (shares .entry))) number given) r (now (out .exit)) ⌝ }
+        ensures { λ r. ⌜ Told (now (out .entry))
+            (ruledText run (keeping (now (gaps .entry)) (now (surpluses .entry)) (now (shares .entry))) number given) r (now (out .exit)) ⌝ }
     {
         let books = run.books();
         let quarters = run.end().quarters;
@@ -338,7 +346,8 @@ impl Checker {
         shares: &[i32],
         out: &mut [u8],
     ) -> Printed
-        ensures { λ r. ⌜ Told (now (out .entry)) (finishText (standing self (keeping (now (gaps .entry)) (now (surpluses .entry)) (now (shares .entry)))) count) r (now (out .exit)) ⌝ }
+        ensures { λ r. ⌜ Told (now (out .entry))
+            (finishText (standing self (keeping (now (gaps .entry)) (now (surpluses .entry)) (now (shares .entry)))) count) r (now (out .exit)) ⌝ }
     {
         let number = std::num::wrapping_add_u64(count, 1);
         let stage = self.stage;

@@ -69,7 +69,8 @@ pub(crate) fn put_share(shares: &mut [i32], at: usize, kwh: i32)
 
 // A direction of a quarter hour.
 fn keep_row(gaps: &mut [[u32; 32]], surpluses: &mut [u32], row: usize, sheet: Sheet)
-    ensures { λ _. ⌜ ((shares : List ℤ) → withRow (keeping (now (gaps .entry)) (now (surpluses .entry)) shares) row sheet ≡ keeping (now (gaps .exit)) (now (surpluses .exit)) shares) ⌝ }
+    ensures { λ _. ⌜ ((shares : List ℤ) → withRow (keeping (now (gaps .entry)) (now (surpluses .entry)) shares) row sheet
+        ≡ keeping (now (gaps .exit)) (now (surpluses .exit)) shares) ⌝ }
 {
     let lines = sheet.lines;
     let pool = sheet.pool;
@@ -79,7 +80,8 @@ fn keep_row(gaps: &mut [[u32; 32]], surpluses: &mut [u32], row: usize, sheet: Sh
 
 // Both directions.
 pub(crate) fn keep(gaps: &mut [[u32; 32]], surpluses: &mut [u32], quarter: u8, sheets: Sheets)
-    ensures { λ _. ⌜ ((shares : List ℤ) → withSheets (keeping (now (gaps .entry)) (now (surpluses .entry)) shares) quarter sheets ≡ keeping (now (gaps .exit)) (now (surpluses .exit)) shares) ⌝ }
+    ensures { λ _. ⌜ ((shares : List ℤ) → withSheets (keeping (now (gaps .entry)) (now (surpluses .entry)) shares) quarter sheets
+        ≡ keeping (now (gaps .exit)) (now (surpluses .exit)) shares) ⌝ }
 {
     let row = (quarter as usize) * 2;
     let positive = sheets.positive;

@@ -24,18 +24,25 @@ module _ {S : Type 0} (handle : S → Gatherer → S) where
   abbrev on : S → List ℕ → Gatherer → Bool → Progress S
   on s rest g complete = cond complete (afterBytes handle (handed handle s g) rest) (record { gatherer = g; state = s })
 
+  abbrev onPart : S → List ℕ → Gathered → Progress S
+  onPart s block r = on s (drop (r .used) block) (r .gatherer) (r .complete)
+
+  -- a byte more was used
+  one-further : (byte : ℕ) (bytes : List ℕ) (r : Gathered) (s : S) → onPart s bytes r ≡ onPart s (byte ∷ bytes) (further 1 r)
+  one-further byte bytes r s = ap (λ (n : ℕ). on s (drop n (byte ∷ bytes)) (r .gatherer) (r .complete)) (sym (one-add (r .used)))
+
   pub by-line : (block : List ℕ) (g : Gatherer) (s : S)
-      → afterBytes handle (record { gatherer = g; state = s }) block ≡ on s (drop (gatheredOf g block .used) block) (gatheredOf g block .gatherer) (gatheredOf g block .complete)
+      → afterBytes handle (record { gatherer = g; state = s }) block ≡ onPart s block (gatheredOf g block)
   unfolding afterBytes gatheredOf
   by-line [] g s = refl
   by-line (byte ∷ bytes) g s =
       elim (ℕ-discrete byte 10) [
-        | yes lf ↦ after-end handle byte bytes (record { gatherer = g; state = s }) lf ∙ sym (ap (λ (r : Gathered). on s (drop (r .used) (byte ∷ bytes)) (r .gatherer) (r .complete)) (ends g byte bytes lf))
+        | yes lf ↦ after-end handle byte bytes (record { gatherer = g; state = s }) lf ∙ sym (ap (onPart s (byte ∷ bytes)) (ends g byte bytes lf))
         | no other ↦
             after-other handle byte bytes (record { gatherer = g; state = s }) other
             ∙ by-line bytes (longerBy g byte) s
-            ∙ ap (λ (n : ℕ). on s (drop n (byte ∷ bytes)) (gatheredOf (longerBy g byte) bytes .gatherer) (gatheredOf (longerBy g byte) bytes .complete)) (sym (one-add (gatheredOf (longerBy g byte) bytes .used)))
-            ∙ sym (ap (λ (r : Gathered). on s (drop (r .used) (byte ∷ bytes)) (r .gatherer) (r .complete)) (goes-on g byte bytes other))
+            ∙ one-further byte bytes (gatheredOf (longerBy g byte) bytes) s
+            ∙ sym (ap (onPart s (byte ∷ bytes)) (goes-on g byte bytes other))
       ]
 
 -- after the last byte nothing changes
@@ -60,17 +67,21 @@ module _ (g : Gatherer) (s : Standing) (block : List ℕ) (at : ℕ) (part : Gat
   used-in : at + part .used ≤ length block
   used-in = omega (arith, left, used-is, used-within (drop at block) g)
 
-  read : feedOf (record { gatherer = g; state = s }) (drop at block) ≡ on handled s (drop (part .used) (drop at block)) (part .gatherer) (part .complete)
-  read =
-      by-line handled (drop at block) g s
-      ∙ sym (ap (λ (r : Gathered). on handled s (drop (r .used) (drop at block)) (r .gatherer) (r .complete)) is-gathered)
+  read : feedOf (record { gatherer = g; state = s }) (drop at block) ≡ onPart handled s (drop at block) part
+  read = by-line handled (drop at block) g s ∙ sym (ap (onPart handled s (drop at block)) is-gathered)
 
   -- no line was complete: the whole block was read
   pub rest-of-block : part .complete ≡ false → Moves (record { gatherer = g; state = s }) block at (part .used) (record { gatherer = part .gatherer; state = s })
   rest-of-block e =
       let u : part .used ≡ length (drop at block) = used-is ∙ used-all (drop at block) g (sym (ap (λ (r : Gathered). r .complete) is-gathered) ∙ e) in
       let w : length block ≤ at + part .used = omega (arith, left) in
-      record { some = some-used; within = used-in; is = read ∙ ap (on handled s (drop (part .used) (drop at block)) (part .gatherer)) e ∙ sym (at-end (part .gatherer) s (drop (at + part .used) block) (drop-of-length-le block w)) }
+      record {
+        some = some-used;
+        within = used-in;
+        is = read
+            ∙ ap (on handled s (drop (part .used) (drop at block)) (part .gatherer)) e
+            ∙ sym (at-end (part .gatherer) s (drop (at + part .used) block) (drop-of-length-le block w));
+      }
 
   -- the line at hand was complete, and the checker took it
   pub line-of-block : {next : Standing} {fresh : Gatherer} → part .complete ≡ true → fresh ≡ freshOf (part .gatherer) → lineTurn s (part .gatherer .count) (heldBy (part .gatherer)) ≡ next

@@ -32,7 +32,8 @@ fn told(
     surpluses: &mut [u32],
     shares: &mut [i32],
 ) -> Checker
-    ensures { λ r. ⌜ lineTurn (standing checker (keeping (now (gaps .entry)) (now (surpluses .entry)) (now (shares .entry)))) number (take kept (now (bytes .entry))) ≡ standing r (keeping (now (gaps .exit)) (now (surpluses .exit)) (now (shares .exit))) ⌝ }
+    ensures { λ r. ⌜ lineTurn (standing checker (keeping (now (gaps .entry)) (now (surpluses .entry)) (now (shares .entry)))) number (take kept (now (bytes .entry)))
+        ≡ standing r (keeping (now (gaps .exit)) (now (surpluses .exit)) (now (shares .exit))) ⌝ }
 {
     if kept < bytes.len() {
         return checker.line(number, &bytes[..kept], gaps, surpluses, shares);
@@ -47,7 +48,8 @@ fn served(
     surpluses: &mut [u32],
     shares: &mut [i32],
 ) -> Checker
-    ensures { λ r. ⌜ lineTurn (standing checker (keeping (now (gaps .entry)) (now (surpluses .entry)) (now (shares .entry)))) (gatherer .count) (heldBy gatherer) ≡ standing r (keeping (now (gaps .exit)) (now (surpluses .exit)) (now (shares .exit))) ⌝ }
+    ensures { λ r. ⌜ lineTurn (standing checker (keeping (now (gaps .entry)) (now (surpluses .entry)) (now (shares .entry)))) (gatherer .count) (heldBy gatherer)
+        ≡ standing r (keeping (now (gaps .exit)) (now (surpluses .exit)) (now (shares .exit))) ⌝ }
 {
     let bytes = gatherer.bytes();
     told(
@@ -90,7 +92,8 @@ impl Reader {
         shares: &mut [i32],
     ) -> Moved
         requires { ⌜ at < length (now block) ⌝ }
-        ensures { λ r. ⌜ Moves (progress self (keeping (now (gaps .entry)) (now (surpluses .entry)) (now (shares .entry)))) (now (block .entry)) at (r .used) (progress (r .reader) (keeping (now (gaps .exit)) (now (surpluses .exit)) (now (shares .exit)))) ⌝ }
+        ensures { λ r. ⌜ Moves (progress self (keeping (now (gaps .entry)) (now (surpluses .entry)) (now (shares .entry)))) (now (block .entry)) at (r .used)
+            (progress (r .reader) (keeping (now (gaps .exit)) (now (surpluses .exit)) (now (shares .exit)))) ⌝ }
     {
         let gatherer = self.gatherer;
         let checker = self.checker;
@@ -123,7 +126,8 @@ impl Reader {
         surpluses: &mut [u32],
         shares: &mut [i32],
     ) -> Reader
-        ensures { λ r. ⌜ feedOf (progress self (keeping (now (gaps .entry)) (now (surpluses .entry)) (now (shares .entry)))) (now (block .entry)) ≡ progress r (keeping (now (gaps .exit)) (now (surpluses .exit)) (now (shares .exit))) ⌝ }
+        ensures { λ r. ⌜ feedOf (progress self (keeping (now (gaps .entry)) (now (surpluses .entry)) (now (shares .entry)))) (now (block .entry))
+            ≡ progress r (keeping (now (gaps .exit)) (now (surpluses .exit)) (now (shares .exit))) ⌝ }
     {
         let mut reader = self;
         let mut i = 0;
@@ -144,7 +148,8 @@ impl Reader {
         shares: &[i32],
         out: &mut [u8],
     ) -> Printed
-        ensures { λ r. ⌜ Told (now (out .entry)) (finishText (standing (self .checker) (keeping (now (gaps .entry)) (now (surpluses .entry)) (now (shares .entry)))) (self .gatherer .count)) r (now (out .exit)) ⌝ }
+        ensures { λ r. ⌜ Told (now (out .entry))
+            (finishText (standing (self .checker) (keeping (now (gaps .entry)) (now (surpluses .entry)) (now (shares .entry)))) (self .gatherer .count)) r (now (out .exit)) ⌝ }
     {
         let gatherer = self.gatherer;
         let checker = self.checker;

@@ -56,7 +56,9 @@ loop-less : tie.Need-loop-less Inv-loop μ-loop
 loop-less c = omega arith
 
 loop-again : tie.Need-loop-again Inv-loop μ-loop
-loop-again c = (search (needs, c .before .before .before .before .before .before .before .before .before .before .loop .inv .0), search (needs, c .before .before .before .before .before .before .before .before .before .before .loop .inv .1), search (needs, c .before .before .before .before .before .before .before .before .before .before .loop .inv .2))
+loop-again c =
+    let at-loop = c .before .before .before .before .before .before .before .before .before .before in
+    (search (needs, at-loop .loop .inv .0), search (needs, at-loop .loop .inv .1), search (needs, at-loop .loop .inv .2))
 
 returns-2 : tie.Need-returns-2 Inv-loop μ-loop
 returns-2 c = tt

@@ -28,7 +28,12 @@ same-length-3 : tie.Need-same-length-3
 same-length-3 c = search needs
 
 returns : tie.Need-returns
-returns c = rw (← c .before .before .before .before .before .before .before .before .before .before .before .bytes .ensures, ← c .before .before .before .before .before .before .before .before .before .before .count .ensures, ← c .before .before .before .before .before .before .before .before .length .ensures) (c .before .before .before .before .told .ensures)
+returns c =
+    let at-told = c .before .before .before .before in
+    let at-length = at-told .before .before .before .before in
+    let at-count = at-length .before .before in
+    let at-bytes = at-count .before in
+    rw (← at-bytes .bytes .ensures, ← at-count .count .ensures, ← at-length .length .ensures) (at-told .told .ensures)
 
 pub served-spec : {M : Type 1} → statement M
 served-spec =

@@ -24,7 +24,11 @@ acceptable-requires c κs = search needs
 returns : tie.Need-returns
 unfolding holdsAt
 returns c =
-    c .acceptable .ensures ∙ rw (c .before .before .surplus-at .ensures, c .before .before .before .energies .ensures, kwh-amounts (c .before .before .before .before .gaps-at .result), c .before .before .before .before .gaps-at .ensures, c .before .shares-from .ensures)
+    let at-surplus-at = c .before .before in
+    let at-energies = at-surplus-at .before in
+    let at-gaps-at = at-energies .before in
+    c .acceptable .ensures
+    ∙ rw (at-surplus-at .surplus-at .ensures, at-energies .energies .ensures, kwh-amounts (at-gaps-at .gaps-at .result), at-gaps-at .gaps-at .ensures, c .before .shares-from .ensures)
 
 pub holds-at-spec : {M : Type 1} → statement M
 holds-at-spec =

@@ -11,7 +11,8 @@ use Rattle.checking.proofs.judged.judged.Statement.{statement}
 use Rattle.checking.proofs.judged.judged.Tie as tie
 
 abbrev Inv-loop : tie.InvT-loop
-Inv-loop books quarters gaps surpluses shares quarter₀ quarter = (quarter ≤ quarters) × (judgedOf books (keeping gaps surpluses shares) quarters ≡ verdictFrom books (keeping gaps surpluses shares) quarters quarter (quarters - quarter))
+Inv-loop books quarters gaps surpluses shares quarter₀ quarter =
+    (quarter ≤ quarters) × (judgedOf books (keeping gaps surpluses shares) quarters ≡ verdictFrom books (keeping gaps surpluses shares) quarters quarter (quarters - quarter))
 
 abbrev μ-loop : tie.MeasureT-loop
 μ-loop books quarters gaps surpluses shares quarter₀ quarter = quarters - quarter
@@ -34,10 +35,15 @@ negative-holds-requires c κs = tt
 
 returns-2 : tie.Need-returns-2 Inv-loop μ-loop
 returns-2 c =
-    let a = c .before .before .before .before .before .before .before .args in
-    let l = c .before .before .before .before .before .loop in
-    sym (l .inv .1 ∙ negative-fails (a .books) (keeping (now (a .gaps)) (now (a .surpluses)) (now (a .shares))) (a .quarters) (l .quarter) (c .before .before .before .before .loop-test .taken)
-    (sym (c .before .before .before .positive-holds .ensures) ∙ not-false _ (c .before .before .if1 .left)) (sym (c .before .negative-holds .ensures) ∙ not-true _ (c .if2 .taken)))
+    let at-if1 = c .before .before in
+    let at-positive-holds = at-if1 .before in
+    let at-loop-test = at-positive-holds .before in
+    let at-loop = at-loop-test .before in
+    let start = at-loop .before .before in
+    let a = start .args in
+    let l = at-loop .loop in
+    sym (l .inv .1 ∙ negative-fails (a .books) (keeping (now (a .gaps)) (now (a .surpluses)) (now (a .shares))) (a .quarters) (l .quarter) (at-loop-test .loop-test .taken)
+    (sym (at-positive-holds .positive-holds .ensures) ∙ not-false _ (at-if1 .if1 .left)) (sym (c .before .negative-holds .ensures) ∙ not-true _ (c .if2 .taken)))
 
 add-quarter : tie.Need-add-quarter Inv-loop μ-loop
 add-quarter c = omega (arith, c .before .before .before .before .loop-test .taken, c .before .before .before .before .before .before .before .fits .quarters)
@@ -47,11 +53,16 @@ loop-less c = omega arith
 
 loop-again : tie.Need-loop-again Inv-loop μ-loop
 loop-again c =
-    let a = c .before .before .before .before .before .before .before .args in
-    let l = c .before .before .before .before .before .loop in (
+    let at-if1 = c .before .before in
+    let at-positive-holds = at-if1 .before in
+    let at-loop-test = at-positive-holds .before in
+    let at-loop = at-loop-test .before in
+    let start = at-loop .before .before in
+    let a = start .args in
+    let l = at-loop .loop in (
       omega arith,
-      l .inv .1 ∙ both-hold (a .books) (keeping (now (a .gaps)) (now (a .surpluses)) (now (a .shares))) (a .quarters) (l .quarter) (c .before .before .before .before .loop-test .taken)
-          (sym (c .before .before .before .positive-holds .ensures) ∙ not-false _ (c .before .before .if1 .left)) (sym (c .before .negative-holds .ensures) ∙ not-false _ (c .if2 .left)),
+      l .inv .1 ∙ both-hold (a .books) (keeping (now (a .gaps)) (now (a .surpluses)) (now (a .shares))) (a .quarters) (l .quarter) (at-loop-test .loop-test .taken)
+          (sym (at-positive-holds .positive-holds .ensures) ∙ not-false _ (at-if1 .if1 .left)) (sym (c .before .negative-holds .ensures) ∙ not-false _ (c .if2 .left)),
     )
 
 returns-3 : tie.Need-returns-3 Inv-loop μ-loop

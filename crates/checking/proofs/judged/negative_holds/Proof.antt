@@ -48,7 +48,11 @@ holds-at-requires c κs =
 
 returns : tie.Need-returns
 unfolding holdsIn
-returns c = rw (← c .before .before .before .before .book .ensures, ← c .before .before .book2 .ensures, ← c .before .before .before .held .ensures .is, ← c .before .held2 .ensures .is) (c .holds-at .ensures)
+returns c =
+    let at-book2 = c .before .before in
+    let at-held = at-book2 .before in
+    let at-book = at-held .before in
+    rw (← at-book .book .ensures, ← at-book2 .book2 .ensures, ← at-held .held .ensures .is, ← c .before .held2 .ensures .is) (c .holds-at .ensures)
 
 pub negative-holds-spec : {M : Type 1} → statement M
 negative-holds-spec =

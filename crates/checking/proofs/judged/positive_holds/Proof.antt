@@ -39,7 +39,11 @@ holds-at-requires c κs =
 
 returns : tie.Need-returns
 unfolding holdsIn
-returns c = rw (← c .before .before .before .before .book .ensures, ← c .before .before .book2 .ensures, ← c .before .before .before .held .ensures .is, ← c .before .held2 .ensures .is) (c .holds-at .ensures)
+returns c =
+    let at-book2 = c .before .before in
+    let at-held = at-book2 .before in
+    let at-book = at-held .before in
+    rw (← at-book .book .ensures, ← at-book2 .book2 .ensures, ← at-held .held .ensures .is, ← c .before .held2 .ensures .is) (c .holds-at .ensures)
 
 pub positive-holds-spec : {M : Type 1} → statement M
 positive-holds-spec =

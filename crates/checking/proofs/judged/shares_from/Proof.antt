@@ -55,15 +55,17 @@ loop-less c = omega arith
 
 loop-again : tie.Need-loop-again Inv-loop μ-loop
 loop-again c =
-    let a = c .before .before .before .before .args in
-    let l = c .before .before .before .loop in
+    let at-loop = c .before .before .before in
+    let start = at-loop .before in
+    let a = start .args in
+    let l = at-loop .loop in
     let all = drop (a .from) (now (a .shares)) in
     let left : length (drop (a .from) (now (a .shares))) ≡ length (now (a .shares)) - a .from = length-drop (a .from) (now (a .shares)) in
     let z = getD (now (a .shares)) (a .from + l .k) (pos 0) in
     let e : getD (drop (a .from) (now (a .shares))) (l .k) (pos 0) ≡ getD (now (a .shares)) (a .from + l .k) (pos 0) = getD-drop (a .from) (now (a .shares)) (l .k) (pos 0) in (
       omega arith,
       omega (arith, c .before .if1 .left),
-      rw (toZ-ofZ w32 z (sfits-of (c .out .given)), ← e, l .inv .2) (filled-more all (l .k) (omega (arith, c .before .if1 .left)) (omega (arith, c .before .before .before .before .pre))),
+      rw (toZ-ofZ w32 z (sfits-of (c .out .given)), ← e, l .inv .2) (filled-more all (l .k) (omega (arith, c .before .if1 .left)) (omega (arith, start .pre))),
     )
 
 returns-2 : tie.Need-returns-2 Inv-loop μ-loop

@@ -27,8 +27,11 @@ same-length-2 c = search needs
 returns : tie.Need-returns
 unfolding withSheets
 returns c =
+    let at-keep-row2 = c .before .before .before in
+    let at-keep-row = at-keep-row2 .before .before .before .before .before .before in
+    let start = at-keep-row .before .before .before .before .before .before in
     λ shares.
-    ap (λ (k : Kept). withRow k (c .before .before .before .before .before .before .before .before .before .before .before .before .before .before .before .args .quarter * 2 + 1) (c .before .before .before .before .before .before .before .before .before .before .before .before .before .before .before .args .sheets .negative)) (c .before .before .before .before .before .before .before .before .before .keep-row .ensures shares) ∙ c .before .before .before .keep-row2 .ensures shares
+    ap (λ (k : Kept). withRow k (start .args .quarter * 2 + 1) (start .args .sheets .negative)) (at-keep-row .keep-row .ensures shares) ∙ at-keep-row2 .keep-row2 .ensures shares
 
 pub keep-spec : {M : Type 1} → statement M
 keep-spec =

@@ -31,10 +31,15 @@ held-requires-2 c κs = search needs
 place-of-requires : tie.Need-place-of-requires
 unfolding wantedIn
 place-of-requires c κs =
-    let e : c .before .before .before .before .before .wanted .result ≡ c .before .before .before .before .before .before .before .args .quarters * (c .before .before .held .result + c .held2 .result) =
-    c .before .before .before .before .before .wanted .ensures ∙ rw (← c .before .before .before .book .ensures, ← c .before .book2 .ensures, ← c .before .before .held .ensures .is, ← c .held2 .ensures .is) in
-    let h : c .before .before .before .before .before .before .before .args .given < c .before .before .before .before .before .before .before .args .quarters * (c .before .before .held .result + c .held2 .result) = omega (arith, c .before .before .before .before .if1 .left) in
-    (some-wanted (c .before .before .before .before .before .before .before .args .quarters) (c .before .before .held .result + c .held2 .result) (c .before .before .before .before .before .before .before .args .given) h, omega (arith, c .before .before .held .ensures .few, c .held2 .ensures .few))
+    let at-held = c .before .before in
+    let at-book = at-held .before in
+    let at-if1 = at-book .before in
+    let at-wanted = at-if1 .before in
+    let start = at-wanted .before .before in
+    let e : at-wanted .wanted .result ≡ start .args .quarters * (at-held .held .result + c .held2 .result) =
+    at-wanted .wanted .ensures ∙ rw (← at-book .book .ensures, ← c .before .book2 .ensures, ← at-held .held .ensures .is, ← c .held2 .ensures .is) in
+    let h : start .args .given < start .args .quarters * (at-held .held .result + c .held2 .result) = omega (arith, at-if1 .if1 .left) in
+    (some-wanted (start .args .quarters) (at-held .held .result + c .held2 .result) (start .args .given) h, omega (arith, at-held .held .ensures .few, c .held2 .ensures .few))
 
 says-place-requires : tie.Need-says-place-requires
 says-place-requires c κs = search needs
@@ -42,9 +47,16 @@ says-place-requires c κs = search needs
 returns-2 : tie.Need-returns-2
 unfolding isWanted
 returns-2 c =
-    let place : c .before .place-of .result ≡ placeIn (c .before .before .before .before .before .before .before .before .before .args .books) (c .before .before .before .before .before .before .before .before .before .args .given) =
-    c .before .place-of .ensures ∙ rw (c .before .before .before .before .held .ensures .is, c .before .before .held2 .ensures .is, c .before .before .before .before .before .book .ensures, c .before .before .before .book2 .ensures) in
-    rw (← c .before .before .before .before .before .before .before .wanted .ensures, lt-ltb _ _ (c .before .before .before .before .before .before .if1 .left), ← place) (c .says-place .ensures)
+    let at-held2 = c .before .before in
+    let at-book2 = at-held2 .before in
+    let at-held = at-book2 .before in
+    let at-book = at-held .before in
+    let at-if1 = at-book .before in
+    let at-wanted = at-if1 .before in
+    let start = at-wanted .before .before in
+    let place : c .before .place-of .result ≡ placeIn (start .args .books) (start .args .given) =
+    c .before .place-of .ensures ∙ rw (at-held .held .ensures .is, at-held2 .held2 .ensures .is, at-book .book .ensures, at-book2 .book2 .ensures) in
+    rw (← at-wanted .wanted .ensures, lt-ltb _ _ (at-if1 .if1 .left), ← place) (c .says-place .ensures)
 
 pub is-wanted-spec : {M : Type 1} → statement M
 is-wanted-spec =

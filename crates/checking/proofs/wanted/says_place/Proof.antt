@@ -22,8 +22,12 @@ same-direction-requires c κs = search needs
 returns-2 : tie.Need-returns-2
 unfolding saysPlace
 returns-2 c =
-    let quarter = rw (back32 {z = c .before .before .before .before .before .before .args .share .quarter} (c .before .before .before .before .struct-told .given .0 .1)) at (c .before .before .before .is-quarter .ensures) in
-    rw (sym quarter ∙ not-false _ (c .before .before .if1 .left), sym (c .before .same-direction .ensures) ∙ not-true _ (c .if2 .taken))
+    let at-if1 = c .before .before in
+    let at-is-quarter = at-if1 .before in
+    let at-struct-told = at-is-quarter .before in
+    let start = at-struct-told .before .before in
+    let quarter = rw (back32 {z = start .args .share .quarter} (at-struct-told .struct-told .given .0 .1)) at (at-is-quarter .is-quarter .ensures) in
+    rw (sym quarter ∙ not-false _ (at-if1 .if1 .left), sym (c .before .same-direction .ensures) ∙ not-true _ (c .if2 .taken))
 
 book-requires : tie.Need-book-requires
 book-requires c κs = search needs
@@ -34,8 +38,14 @@ names-requires c κs = search needs
 returns-3 : tie.Need-returns-3
 unfolding saysPlace
 returns-3 c =
-    let quarter = rw (back32 {z = c .before .before .before .before .before .before .before .before .args .share .quarter} (c .before .before .before .before .before .before .struct-told .given .0 .1)) at (c .before .before .before .before .before .is-quarter .ensures) in
-    rw (sym quarter ∙ not-false _ (c .before .before .before .before .if1 .left), sym (c .before .before .before .same-direction .ensures) ∙ not-false _ (c .before .before .if2 .left), ← c .before .book .ensures) (c .names .ensures)
+    let at-if2 = c .before .before in
+    let at-same-direction = at-if2 .before in
+    let at-if1 = at-same-direction .before in
+    let at-is-quarter = at-if1 .before in
+    let at-struct-told = at-is-quarter .before in
+    let start = at-struct-told .before .before in
+    let quarter = rw (back32 {z = start .args .share .quarter} (at-struct-told .struct-told .given .0 .1)) at (at-is-quarter .is-quarter .ensures) in
+    rw (sym quarter ∙ not-false _ (at-if1 .if1 .left), sym (at-same-direction .same-direction .ensures) ∙ not-false _ (at-if2 .if2 .left), ← c .before .book .ensures) (c .names .ensures)
 
 pub says-place-spec : {M : Type 1} → statement M
 says-place-spec =

@@ -26,16 +26,21 @@ is-wanted-requires c κs = search needs
 returns-2 : tie.Need-returns-2
 unfolding shareGround
 returns-2 c =
-    (rw (sym (c .before .before .before .well-formed .ensures) ∙ not-false _ (c .before .before .if1 .left), sym (c .before .is-wanted .ensures) ∙ not-true _ (c .if2 .taken)), λ z. absurd (omega (arith, z)))
+    let at-if1 = c .before .before in
+    let at-well-formed = at-if1 .before in
+    (rw (sym (at-well-formed .well-formed .ensures) ∙ not-false _ (at-if1 .if1 .left), sym (c .before .is-wanted .ensures) ∙ not-true _ (c .if2 .taken)), λ z. absurd (omega (arith, z)))
 
 returns-3 : tie.Need-returns-3
 unfolding shareGround wantedIn heldOf leastOf
 returns-3 c =
+    let at-if1 = c .before .before in
+    let at-well-formed = at-if1 .before in
+    let start = at-well-formed .before .before in
     let told = sym (c .before .is-wanted .ensures) ∙ not-false _ (c .if2 .left) in
-    let day : c .before .before .before .before .before .args .quarters ≤ 255 = omega (arith, c .before .before .before .before .before .fits .quarters) in
-    let few : perQuarter (c .before .before .before .before .before .args .books) ≤ 64 = omega arith in (
-      rw (sym (c .before .before .before .well-formed .ensures) ∙ not-false _ (c .before .before .if1 .left), told),
-      λ z. omega (arith, among (c .before .before .before .before .before .args .books) (c .before .before .before .before .before .args .quarters) (c .before .before .before .before .before .args .given) (c .before .before .before .before .before .args .share) _ told, mul-le-mul day few),
+    let day : start .args .quarters ≤ 255 = omega (arith, start .fits .quarters) in
+    let few : perQuarter (start .args .books) ≤ 64 = omega arith in (
+      rw (sym (at-well-formed .well-formed .ensures) ∙ not-false _ (at-if1 .if1 .left), told),
+      λ z. omega (arith, among (start .args .books) (start .args .quarters) (start .args .given) (start .args .share) _ told, mul-le-mul day few),
     )
 
 pub share-refusal-spec : {M : Type 1} → statement M

@@ -26,7 +26,12 @@ share-from-requires c κs = search needs
 returns-2 : tie.Need-returns-2
 unfolding askedOf
 returns-2 c =
-    rw (le-ltb _ _ (c .before .before .before .before .before .if1 .left), ← c .before .before .before .field .ensures .1 (c .before .before .before .before .split-of .ensures) (omega arith), ← c .before .before .is-letter .ensures, c .before .if2 .taken) (c .share-from .ensures)
+    let at-is-letter = c .before .before in
+    let at-field = at-is-letter .before in
+    let at-split-of = at-field .before in
+    let at-if1 = at-split-of .before in
+    rw (le-ltb _ _ (at-if1 .if1 .left), ← at-field .field .ensures .1 (at-split-of .split-of .ensures) (omega arith), ← at-is-letter .is-letter .ensures, c .before .if2 .taken)
+    (c .share-from .ensures)
 
 read-requires : tie.Need-read-requires
 read-requires c κs = search needs
@@ -34,7 +39,11 @@ read-requires c κs = search needs
 returns-3 : tie.Need-returns-3
 unfolding askedOf
 returns-3 c =
-    rw (le-ltb _ _ (c .before .before .before .before .before .if1 .left), ← c .before .before .before .field .ensures .1 (c .before .before .before .before .split-of .ensures) (omega arith), ← c .before .before .is-letter .ensures, c .before .if2 .left, c .read .ensures)
+    let at-is-letter = c .before .before in
+    let at-field = at-is-letter .before in
+    let at-split-of = at-field .before in
+    let at-if1 = at-split-of .before in
+    rw (le-ltb _ _ (at-if1 .if1 .left), ← at-field .field .ensures .1 (at-split-of .split-of .ensures) (omega arith), ← at-is-letter .is-letter .ensures, c .before .if2 .left, c .read .ensures)
 
 pub read-asked-spec : {M : Type 1} → statement M
 read-asked-spec =

@@ -27,7 +27,10 @@ step-requires : tie.Need-step-requires Inv-loop μ-loop
 step-requires c κs = c .before .before .before .loop-test .taken
 
 add-i : tie.Need-add-i Inv-loop μ-loop
-add-i c = omega (arith, c .before .before .before .before .before .before .step .ensures .within, c .before .before .before .before .before .before .before .before .before .before .before .before .before .before .good)
+add-i c =
+    let at-step = c .before .before .before .before .before .before in
+    let start = at-step .before .before .before .before .before .before .before .before in
+    omega (arith, at-step .step .ensures .within, start .good)
 
 loop-less : tie.Need-loop-less Inv-loop μ-loop
 loop-less c = omega (arith, c .before .before .before .before .before .before .step .ensures .some, c .before .before .before .before .before .before .step .ensures .within)

@@ -22,8 +22,11 @@ gather-requires c κs = search needs
 
 returns : tie.Need-returns
 returns c =
-    let a = c .before .before .before .before .before .before .before .before .before .args in
-    rest-of-block (a .self .gatherer) (standing (a .self .checker) (keeping (now (a .gaps)) (now (a .surpluses)) (now (a .shares)))) _ _ _ (c .before .before .before .before .before .before .before .before .before .pre) (c .before .before .before .gather .ensures) (not-true _ (c .if1 .taken))
+    let at-gather = c .before .before .before in
+    let start = at-gather .before .before .before .before .before .before in
+    let a = start .args in
+    let s = standing (a .self .checker) (keeping (now (a .gaps)) (now (a .surpluses)) (now (a .shares))) in
+    rest-of-block (a .self .gatherer) s _ _ _ (start .pre) (at-gather .gather .ensures) (not-true _ (c .if1 .taken))
 
 served-requires : tie.Need-served-requires
 served-requires c κs = search needs
@@ -42,9 +45,14 @@ same-length-3 c = search needs
 
 returns-2 : tie.Need-returns-2
 returns-2 c =
-    let a = c .before .before .before .before .before .before .before .before .before .before .before .before .before .before .before .before .before .before .args in
-    line-of-block (a .self .gatherer) (standing (a .self .checker) (keeping (now (a .gaps)) (now (a .surpluses)) (now (a .shares)))) _ _ _ (c .before .before .before .before .before .before .before .before .before .before .before .before .before .before .before .before .before .before .pre) (c .before .before .before .before .before .before .before .before .before .before .before .before .gather .ensures) (not-false _ (c .before .before .before .before .before .before .before .before .before .if1 .left))
-    (c .fresh .ensures) (c .before .before .before .before .before .served .ensures)
+    let at-served = c .before .before .before .before .before in
+    let at-if1 = at-served .before .before .before .before in
+    let at-gather = at-if1 .before .before .before in
+    let start = at-gather .before .before .before .before .before .before in
+    let a = start .args in
+    let s = standing (a .self .checker) (keeping (now (a .gaps)) (now (a .surpluses)) (now (a .shares))) in
+    line-of-block (a .self .gatherer) s _ _ _ (start .pre) (at-gather .gather .ensures) (not-false _ (at-if1 .if1 .left))
+    (c .fresh .ensures) (at-served .served .ensures)
 
 pub step-spec : {M : Type 1} → statement M
 step-spec =

@@ -21,7 +21,11 @@ same-length : tie.Need-same-length
 same-length c = search needs
 
 returns-2 : tie.Need-returns-2
-returns-2 c = written 128 (c .before .before .before .before .before .before .put-verdict .ensures) (omega arith) (omega arith) (c .before .before .before .before .if1 .left) (c .before .before .put-verdict2 .ensures)
+returns-2 c =
+    let at-put-verdict2 = c .before .before in
+    let at-if1 = at-put-verdict2 .before .before in
+    let at-put-verdict = at-if1 .before .before in
+    written 128 (at-put-verdict .put-verdict .ensures) (omega arith) (omega arith) (at-if1 .if1 .left) (at-put-verdict2 .put-verdict2 .ensures)
 
 pub print-verdict-spec : {M : Type 1} → statement M
 print-verdict-spec =

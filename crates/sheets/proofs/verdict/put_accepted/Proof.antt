@@ -19,7 +19,11 @@ same-length c = search needs
 
 returns : tie.Need-returns
 unfolding acceptedText
-returns c = ended (further (begun (c .before .before .before .before .before .before .before .before .before .before .put .ensures)) (number (c .before .before .before .before .before .before .put-field .ensures))) (c .before .before .put-line-end .ensures)
+returns c =
+    let at-put-line-end = c .before .before in
+    let at-put-field = at-put-line-end .before .before .before .before in
+    let at-put = at-put-field .before .before .before .before in
+    ended (further (begun (at-put .put .ensures)) (number (at-put-field .put-field .ensures))) (at-put-line-end .put-line-end .ensures)
 
 pub put-accepted-spec : {M : Type 1} → statement M
 put-accepted-spec =

@@ -20,7 +20,10 @@ same-length : tie.Need-same-length
 same-length c = search needs
 
 returns : tie.Need-returns
-returns c = rw (c .before .before .before .before .before .verdict .given .1) (record { wrote = c .before .before .put-accepted .ensures .wrote; short = omega (arith, c .before .before .put-accepted .ensures .short) })
+returns c =
+    let at-put-accepted = c .before .before in
+    let at-verdict = at-put-accepted .before .before .before in
+    rw (at-verdict .verdict .given .1) (record { wrote = at-put-accepted .put-accepted .ensures .wrote; short = omega (arith, at-put-accepted .put-accepted .ensures .short) })
 
 same-length-2 : tie.Need-same-length-2
 same-length-2 c = search needs

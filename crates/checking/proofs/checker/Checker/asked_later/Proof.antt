@@ -22,13 +22,19 @@ share-requires : tie.Need-share-requires
 share-requires c κs = search needs
 
 returns : tie.Need-returns
-returns c = λ gaps surpluses. rw (← c .before .before .before .before .before .read-asked .ensures, c .before .before .before .asked .given .1, c .stopped .ensures, c .before .too-late .ensures)
+returns c =
+    let at-asked = c .before .before .before in
+    let at-read-asked = at-asked .before .before in
+    λ gaps surpluses. rw (← at-read-asked .read-asked .ensures, at-asked .asked .given .1, c .stopped .ensures, c .before .too-late .ensures)
 
 same-length : tie.Need-same-length
 same-length c = search needs
 
 returns-2 : tie.Need-returns-2
-returns-2 c = λ gaps surpluses. rw (← c .before .before .before .before .before .before .read-asked .ensures, c .before .before .before .before .asked2 .given .1) (c .before .share .ensures gaps surpluses)
+returns-2 c =
+    let at-asked2 = c .before .before .before .before in
+    let at-read-asked = at-asked2 .before .before in
+    λ gaps surpluses. rw (← at-read-asked .read-asked .ensures, at-asked2 .asked2 .given .1) (c .before .share .ensures gaps surpluses)
 
 pub asked-later-spec : {M : Type 1} → statement M
 asked-later-spec =

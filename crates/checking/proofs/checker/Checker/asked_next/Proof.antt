@@ -31,10 +31,18 @@ same-length-2 : tie.Need-same-length-2
 same-length-2 c = search needs
 
 returns : tie.Need-returns
-returns c = λ shares. rw (← c .before .before .before .before .before .before .before .before .before .read-asked .ensures, c .before .before .before .before .before .before .before .asked .given .1) (c .before .before .before .next .ensures shares)
+returns c =
+    let at-next = c .before .before .before in
+    let at-asked = at-next .before .before .before .before in
+    let at-read-asked = at-asked .before .before in
+    λ shares. rw (← at-read-asked .read-asked .ensures, at-asked .asked .given .1) (at-next .next .ensures shares)
 
 returns-2 : tie.Need-returns-2
-returns-2 c = λ shares. rw (← c .before .before .before .before .before .read-asked .ensures, c .before .before .before .enum-told .given .1, c .stopped .ensures, c .before .early-refusal .ensures, c .before .before .whose .ensures)
+returns-2 c =
+    let at-whose = c .before .before in
+    let at-enum-told = at-whose .before in
+    let at-read-asked = at-enum-told .before .before in
+    λ shares. rw (← at-read-asked .read-asked .ensures, at-enum-told .enum-told .given .1, c .stopped .ensures, c .before .early-refusal .ensures, at-whose .whose .ensures)
 
 pub asked-next-spec : {M : Type 1} → statement M
 asked-next-spec =

@@ -37,8 +37,11 @@ same-length c = search needs
 returns : tie.Need-returns
 unfolding finishText
 returns c =
-    let p = c .before .before .print-refusal .ensures in
-    rw (c .before .before .before .before .enum-told .given .1, ← c .before .before .before .before .before .before .before .wrapping-add-u64 .ensures) (record { answer = p .0; bytes = p .1 .0; room = p .1 .1 })
+    let at-print-refusal = c .before .before in
+    let at-enum-told = at-print-refusal .before .before in
+    let at-wrapping-add-u64 = at-enum-told .before .before .before in
+    let p = at-print-refusal .print-refusal .ensures in
+    rw (at-enum-told .enum-told .given .1, ← at-wrapping-add-u64 .wrapping-add-u64 .ensures) (record { answer = p .0; bytes = p .1 .0; room = p .1 .1 })
 
 same-length-2 : tie.Need-same-length-2
 same-length-2 c = search needs
@@ -46,15 +49,22 @@ same-length-2 c = search needs
 returns-2 : tie.Need-returns-2
 unfolding finishText
 returns-2 c =
-    let p = c .before .before .print-refusal2 .ensures in
-    rw (c .before .before .before .before .enum-told2 .given .1, ← c .before .before .before .before .before .before .before .wrapping-add-u64 .ensures) (record { answer = p .0; bytes = p .1 .0; room = p .1 .1 })
+    let at-print-refusal2 = c .before .before in
+    let at-enum-told2 = at-print-refusal2 .before .before in
+    let at-wrapping-add-u64 = at-enum-told2 .before .before .before in
+    let p = at-print-refusal2 .print-refusal2 .ensures in
+    rw (at-enum-told2 .enum-told2 .given .1, ← at-wrapping-add-u64 .wrapping-add-u64 .ensures) (record { answer = p .0; bytes = p .1 .0; room = p .1 .1 })
 
 same-length-3 : tie.Need-same-length-3
 same-length-3 c = search needs
 
 returns-3 : tie.Need-returns-3
 unfolding finishText
-returns-3 c = rw (c .before .before .before .before .before .stage .given .1, ← c .before .before .before .before .before .before .before .before .wrapping-add-u64 .ensures) (c .before .before .ruled .ensures)
+returns-3 c =
+    let at-ruled = c .before .before in
+    let at-stage = at-ruled .before .before .before in
+    let at-wrapping-add-u64 = at-stage .before .before .before in
+    rw (at-stage .stage .given .1, ← at-wrapping-add-u64 .wrapping-add-u64 .ensures) (at-ruled .ruled .ensures)
 
 same-length-4 : tie.Need-same-length-4
 same-length-4 c = search needs

@@ -38,14 +38,21 @@ same-length-2 c = search needs
 
 returns-2 : tie.Need-returns-2
 unfolding lineTurn
-returns-2 c = rw (c .before .before .before .before .before .before .enum-told2 .given .1) (c .before .before .before .asked-next .ensures (now (c .before .before .before .before .before .before .before .before .before .before .before .args .shares)))
+returns-2 c =
+    let at-asked-next = c .before .before .before in
+    let at-enum-told2 = at-asked-next .before .before .before in
+    let start = at-enum-told2 .before .before .before .before .before in
+    rw (at-enum-told2 .enum-told2 .given .1) (at-asked-next .asked-next .ensures (now (start .args .shares)))
 
 same-length-3 : tie.Need-same-length-3
 same-length-3 c = search needs
 
 returns-3 : tie.Need-returns-3
 unfolding lineTurn
-returns-3 c = rw (c .before .before .before .before .stage .given .1) (c .before .asked-later .ensures (now (c .before .before .before .before .before .before .before .before .before .args .gaps)) (now (c .before .before .before .before .before .before .before .before .before .args .surpluses)))
+returns-3 c =
+    let at-stage = c .before .before .before .before in
+    let start = at-stage .before .before .before .before .before in
+    rw (at-stage .stage .given .1) (c .before .asked-later .ensures (now (start .args .gaps)) (now (start .args .surpluses)))
 
 returns-4 : tie.Need-returns-4
 unfolding lineTurn

@@ -18,7 +18,10 @@ at-requires c κs = search needs
 
 returns : tie.Need-returns
 unfolding quarterTurn
-returns c = λ shares. rw (some-refused (c .before .before .number .ensures) (ap (λ (t : Taken). t .refusal) (c .before .before .before .take .ensures)) (c .before .if1 .taken), c .at .ensures)
+returns c =
+    let at-number = c .before .before in
+    let at-take = at-number .before in
+    λ shares. rw (some-refused (at-number .number .ensures) (ap (λ (t : Taken). t .refusal) (at-take .take .ensures)) (c .before .if1 .taken), c .at .ensures)
 
 keep-requires : tie.Need-keep-requires
 keep-requires c κs = search needs
@@ -35,8 +38,17 @@ same-length-2 c = search needs
 returns-2 : tie.Need-returns-2
 unfolding quarterTurn
 returns-2 c =
+    let at-keep = c .before .before .before .before in
+    let at-if1 = at-keep .before .before .before .before in
+    let at-number = at-if1 .before in
+    let at-take = at-number .before in
     λ shares.
-    rw (none-refused (c .before .before .before .before .before .before .before .before .before .number .ensures) (ap (λ (t : Taken). t .refusal) (c .before .before .before .before .before .before .before .before .before .before .take .ensures)) (c .before .before .before .before .before .before .before .before .if1 .left), c .at2 .ensures, ← c .before .before .before .before .keep .ensures shares, c .before .before .before .before .before .before .before .before .before .before .take .ensures)
+    rw (
+      none-refused (at-number .number .ensures) (ap (λ (t : Taken). t .refusal) (at-take .take .ensures)) (at-if1 .if1 .left),
+      c .at2 .ensures,
+      ← at-keep .keep .ensures shares,
+      at-take .take .ensures,
+    )
 
 pub quarter-spec : {M : Type 1} → statement M
 quarter-spec =

@@ -19,7 +19,13 @@ stopped-requires c κs = search needs
 returns : tie.Need-returns
 unfolding sampleTurn
 returns c =
-    λ shares. rw (some-refused (c .before .before .number .ensures) (ap (λ (a : Answer). a .refusal) (c .before .before .before .sample .ensures)) (c .before .if1 .taken), c .stopped .ensures, c .before .before .before .sample .ensures)
+    let at-number = c .before .before in
+    let at-sample = at-number .before in
+    λ shares. rw (
+      some-refused (at-number .number .ensures) (ap (λ (a : Answer). a .refusal) (at-sample .sample .ensures)) (c .before .if1 .taken),
+      c .stopped .ensures,
+      at-sample .sample .ensures,
+    )
 
 quarter-requires : tie.Need-quarter-requires
 quarter-requires c κs = search needs
@@ -33,8 +39,13 @@ same-length-2 c = search needs
 returns-2 : tie.Need-returns-2
 unfolding sampleTurn
 returns-2 c =
+    let at-quarter = c .before .before .before in
+    let at-if1 = at-quarter .before .before .before in
+    let at-number = at-if1 .before in
+    let at-sample = at-number .before in
     λ shares.
-    rw (none-refused (c .before .before .before .before .before .before .before .number .ensures) (ap (λ (a : Answer). a .refusal) (c .before .before .before .before .before .before .before .before .sample .ensures)) (c .before .before .before .before .before .before .if1 .left), ← c .before .before .before .before .before .before .before .before .sample .ensures) (c .before .before .before .quarter .ensures shares)
+    rw (none-refused (at-number .number .ensures) (ap (λ (a : Answer). a .refusal) (at-sample .sample .ensures)) (at-if1 .if1 .left), ← at-sample .sample .ensures)
+    (at-quarter .quarter .ensures shares)
 
 pub sample-spec : {M : Type 1} → statement M
 sample-spec =

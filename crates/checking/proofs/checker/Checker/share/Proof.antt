@@ -32,16 +32,26 @@ stopped-requires c κs = search needs
 returns : tie.Need-returns
 unfolding shareTurn
 returns c =
-    let a = c .before .before .before .before .before .before .before .before .args in
-    let same : c .before .before .before .share-refusal .result ≡ groundOf (a .run) (a .given) (a .share) (whoseOf (now (a .line))) =
-    c .before .before .before .share-refusal .ensures .0 ∙ rw (c .before .before .before .before .before .before .books .ensures, c .before .before .before .before .before .end .ensures, c .before .before .before .before .whose .ensures) in
-    λ gaps surpluses. rw (some-refused (c .before .before .number .ensures) same (c .before .if1 .taken), c .stopped .ensures, same)
+    let at-number = c .before .before in
+    let at-share-refusal = at-number .before in
+    let at-whose = at-share-refusal .before in
+    let at-end = at-whose .before in
+    let at-books = at-end .before in
+    let start = at-books .before .before in
+    let a = start .args in
+    let same : at-share-refusal .share-refusal .result ≡ groundOf (a .run) (a .given) (a .share) (whoseOf (now (a .line))) =
+    at-share-refusal .share-refusal .ensures .0 ∙ rw (at-books .books .ensures, at-end .end .ensures, at-whose .whose .ensures) in
+    λ gaps surpluses. rw (some-refused (at-number .number .ensures) same (c .before .if1 .taken), c .stopped .ensures, same)
 
 put-share-requires : tie.Need-put-share-requires
 put-share-requires c κs = search needs
 
 add-t16 : tie.Need-add-t16
-add-t16 c = omega (arith, c .before .before .before .before .before .before .share-refusal .ensures .1 (sym (c .before .before .before .before .before .number .ensures) ∙ c .before .before .before .before .if1 .left))
+add-t16 c =
+    let at-if1 = c .before .before .before .before in
+    let at-number = at-if1 .before in
+    let at-share-refusal = at-number .before in
+    omega (arith, at-share-refusal .share-refusal .ensures .1 (sym (at-number .number .ensures) ∙ at-if1 .if1 .left))
 
 at-requires : tie.Need-at-requires
 at-requires c κs = search needs
@@ -52,11 +62,20 @@ same-length c = search needs
 returns-2 : tie.Need-returns-2
 unfolding shareTurn withShare
 returns-2 c =
-    let a = c .before .before .before .before .before .before .before .before .before .before .before .before .args in
-    let same : c .before .before .before .before .before .before .before .share-refusal .result ≡ groundOf (a .run) (a .given) (a .share) (whoseOf (now (a .line))) =
-    c .before .before .before .before .before .before .before .share-refusal .ensures .0 ∙ rw (c .before .before .before .before .before .before .before .before .before .before .books .ensures, c .before .before .before .before .before .before .before .before .before .end .ensures, c .before .before .before .before .before .before .before .before .whose .ensures) in
-    let kwh = rw (back32 {z = a .share .kwh} (c .before .before .before .struct-told .given .1 .1 .0 .1)) at (c .before .before .put-share .ensures) in
-    λ gaps surpluses. rw (none-refused (c .before .before .before .before .before .before .number .ensures) same (c .before .before .before .before .before .if1 .left), c .at .ensures, kwh)
+    let at-put-share = c .before .before in
+    let at-struct-told = at-put-share .before in
+    let at-if1 = at-struct-told .before .before in
+    let at-number = at-if1 .before in
+    let at-share-refusal = at-number .before in
+    let at-whose = at-share-refusal .before in
+    let at-end = at-whose .before in
+    let at-books = at-end .before in
+    let start = at-books .before .before in
+    let a = start .args in
+    let same : at-share-refusal .share-refusal .result ≡ groundOf (a .run) (a .given) (a .share) (whoseOf (now (a .line))) =
+    at-share-refusal .share-refusal .ensures .0 ∙ rw (at-books .books .ensures, at-end .end .ensures, at-whose .whose .ensures) in
+    let kwh = rw (back32 {z = a .share .kwh} (at-struct-told .struct-told .given .1 .1 .0 .1)) at (at-put-share .put-share .ensures) in
+    λ gaps surpluses. rw (none-refused (at-number .number .ensures) same (at-if1 .if1 .left), c .at .ensures, kwh)
 
 pub share-spec : {M : Type 1} → statement M
 share-spec =

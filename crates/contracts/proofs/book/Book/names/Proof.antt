@@ -29,12 +29,14 @@ same-requires c κs = search needs
 returns-2 : tie.Need-returns-2
 unfolding namesAt
 returns-2 c =
+    let at-if1 = c .before .before .before .before .before in
+    let at-held = at-if1 .before in
     let s = c .before .before .before .before .before .before .before .before in
     rw (
-      ← c .before .before .before .before .before .before .held .ensures .is,
-      lt-ltb _ _ (c .before .before .before .before .before .if1 .left),
+      ← at-held .held .ensures .is,
+      lt-ltb _ _ (at-if1 .if1 .left),
       ← c .before .padded .ensures,
-      whatever-past (s .args .self .contracts) (s .args .k) noContract no-contract (omega (arith, c .before .before .before .before .before .if1 .left, c .before .before .before .before .before .before .held .ensures .fits)),
+      whatever-past (s .args .self .contracts) (s .args .k) noContract no-contract (omega (arith, at-if1 .if1 .left, at-held .held .ensures .fits)),
     ) (c .same .ensures)
 
 pub names-spec : {M : Type 1} → statement M
