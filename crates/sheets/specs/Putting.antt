@@ -1,4 +1,4 @@
--- What the private functions tell each other: a text is put as `print` puts text, and how long it is at most. No public contract cites it.
+-- What functions that print tell each other: a text is put as `print` puts text, and how long it is at most.
 use Prim.Native.Nat.{ℕ, _≤_}
 use mathlib.Core.List.{List, _++_}
 use lib.ListN.{length}
