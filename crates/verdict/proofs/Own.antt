@@ -38,7 +38,7 @@ use Rattle.meaning.specs.Given.{Deal, Given, dealsIn, quartersIn, secondsIn, po
 use Rattle.meaning.specs.Meaning.{SoFar, nothing, these}
 use Rattle.meaning.specs.Endings.{Each, of-none, of-more, FairDeal, Proper, Accepts, Ends, by-end, whole, AcceptedInput}
 use Rattle.meaning.proofs.Endings.{ends}
-use Rattle.meaning.proofs.Proper.{opened-quarters}
+use Rattle.settlement.proofs.HeaderLaws.{opened-quarters}
 use Rattle.meaning.proofs.Figures.{sum-fits, lines-count, fair-deals, shares-fair, few-terms, claims-count}
 use Rattle.meaning.proofs.Held.{shares-on-lines}
 use Rattle.join.proofs.NumberBack.{Visible, number-visible, number-back, number-short}

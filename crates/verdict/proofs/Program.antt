@@ -47,7 +47,8 @@ use Rattle.channel.specs.Start.{carried}
 use Rattle.meaning.specs.Given.{Deal, Given, headed, withStart, blockBy, withNewest, withDeal, withSample, intervalIn, quartersIn, perQuarter}
 use Rattle.meaning.specs.Meaning.{SoFar, nothing, these, dealOf, lacks, grounds, after}
 use Rattle.meaning.specs.Endings.{Proper}
-use Rattle.meaning.proofs.Proper.{proper-headed, proper-bounds, proper-setpoint, proper-contract, proper-sample, bounds-early, setpoint-early, agreed, opened-quarters}
+use Rattle.meaning.proofs.Proper.{proper-headed, proper-bounds, proper-setpoint, proper-contract, proper-sample, bounds-early, setpoint-early, agreed}
+use Rattle.settlement.proofs.HeaderLaws.{opened-quarters}
 use Rattle.meaning.proofs.Moments.{given, none-taken}
 use Rattle.meaning.proofs.Figures.{few-deals}
 use Rattle.meaning.proofs.Standing.{Meets, counted, header-ground, meets-opened, contract-ground, meets-contracted}

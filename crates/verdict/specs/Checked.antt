@@ -11,14 +11,14 @@ use Rattle.arithmetic.specs.Whole.{up}
 use Rattle.vocabulary.specs.declared.refusal.Refusal.{Refusal}
 use Rattle.vocabulary.specs.declared.refusal.Refusal.the-variants.{WrongMoment, BadIdentifier, BadBlockLength, MisplacedShare, BadLine, NoEnd}
 use Rattle.vocabulary.specs.Refusals.{accepted}
-use Rattle.vocabulary.specs.Grounds.{Ground, on, first}
+use Rattle.vocabulary.specs.Grounds.{Ground, on, only, first}
 use Rattle.contracts.specs.Identifier.{wellFormed, sameBytes}
 use Rattle.sheets.specs.Sheet.{letterOf, refusalText}
 use Rattle.lines.specs.Lines.{linesOf}
 use Rattle.reading.specs.Line.{identifierOf}
 use Rattle.reading.specs.declared.Line.{Line}
 use Rattle.meaning.specs.Given.{Given}
-use Rattle.meaning.specs.Meaning.{SoFar, nothing, these, lacks, only, grounds, after}
+use Rattle.meaning.specs.Meaning.{SoFar, nothing, these, lacks, grounds, after}
 use Rattle.reading.specs.declared.share.Share.{Share}
 use Rattle.reading.specs.declared.share.Asked.{Asked}
 use Rattle.reading.specs.Share.{askedOf, whoseOf}
