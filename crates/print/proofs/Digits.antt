@@ -2,7 +2,7 @@
 use Prim.Native.Nat.{ℕ, zero, suc, _+_, _/_, _%_, _^_, _≤_, _<_}
 use mathlib.Core.Path.{_≡_, refl, sym, ap, _∙_}
 use mathlib.Core.Bool.{true, false}
-use mathlib.Core.List.{List, [], _∷_, _++_}
+use mathlib.Core.List.{List, [], _∷_, _++_, append-assoc}
 use native.Mathlib.Omega.{arith}
 use native.Mathlib.Decide.{decLe}
 use native.Mathlib.Nat.{pow-suc, lt-of-not-le, not-suc-le-zero}
@@ -41,6 +41,49 @@ digits-one n h = let e : n % 10 ≡ n = omega arith in one-in n n h ∙ ap (λ (
 pub digits-more : (n : ℕ) → 10 ≤ n → digits n ≡ digits (n / 10) ++ lastDigit n
 unfolding digits
 digits-more n h = same n (suc n) n (omega arith) (omega arith) ∙ more-in (suc n) n h ∙ ap (λ (l : List ℕ). l ++ lastDigit n) (same n (n / 10) (n / 10) (omega arith) (omega arith))
+
+-- two digits, three and four
+pub digits-two : (n : ℕ) → 10 ≤ n → n < 100 → digits n ≡ twoDigits n
+unfolding twoDigits
+digits-two n h l =
+    let e : n / 10 % 10 ≡ n / 10 = omega arith in
+    digits-more n h ∙ ap (λ (d : List ℕ). d ++ lastDigit n) (digits-one (n / 10) (omega arith) ∙ ap (λ (k : ℕ). (48 + k) ∷ []) (sym e))
+
+-- the last two of more
+digits-hundred : (n : ℕ) → 100 ≤ n → digits n ≡ digits (n / 100) ++ twoDigits n
+unfolding twoDigits
+digits-hundred n h =
+    let e : n / 10 / 10 ≡ n / 100 = omega arith in
+    digits-more n (omega arith)
+    ∙ ap (λ (d : List ℕ). d ++ lastDigit n) (digits-more (n / 10) (omega arith) ∙ ap (λ (k : ℕ). digits k ++ lastDigit (n / 10)) e)
+    ∙ append-assoc (digits (n / 100)) (lastDigit (n / 10)) (lastDigit n)
+
+pub digits-three : (n : ℕ) → 100 ≤ n → n < 1000 → digits n ≡ ((48 + n / 100) ∷ []) ++ twoDigits n
+digits-three n h l = digits-hundred n h ∙ ap (λ (d : List ℕ). d ++ twoDigits n) (digits-one (n / 100) (omega arith))
+
+pub digits-four : (n : ℕ) → 1000 ≤ n → n < 10000 → digits n ≡ fourDigits n
+unfolding fourDigits
+digits-four n h l = digits-hundred n (omega arith) ∙ ap (λ (d : List ℕ). d ++ twoDigits n) (digits-two (n / 100) (omega arith) (omega arith))
+
+-- two digits tell no more than what is left by a hundred
+last-two : (a b : ℕ) → a % 100 ≡ b % 100 → twoDigits a ≡ twoDigits b
+unfolding twoDigits
+last-two a b h =
+    let tens : a / 10 % 10 ≡ b / 10 % 10 = omega arith in
+    let ones : a % 10 ≡ b % 10 = omega arith in
+    rw (tens, ones) refl
+
+-- the last four of more
+pub digits-myriad : (n : ℕ) → 10000 ≤ n → digits n ≡ digits (n / 10000) ++ fourDigits (n % 10000)
+unfolding fourDigits
+digits-myriad n h =
+    let e : n / 100 / 100 ≡ n / 10000 = omega arith in
+    let high : n / 100 % 100 ≡ n % 10000 / 100 % 100 = omega arith in
+    let low : n % 100 ≡ n % 10000 % 100 = omega arith in
+    digits-hundred n (omega arith)
+    ∙ ap (λ (d : List ℕ). d ++ twoDigits n) (digits-hundred (n / 100) (omega arith) ∙ ap (λ (k : ℕ). digits k ++ twoDigits (n / 100)) e)
+    ∙ append-assoc (digits (n / 10000)) (twoDigits (n / 100)) (twoDigits n)
+    ∙ rw (last-two (n / 100) (n % 10000 / 100) high, last-two n (n % 10000) low) refl
 
 -- as many digits as the power of ten says
 pub digits-length : (k n : ℕ) → n < 10 ^ suc k → length (digits n) ≤ suc k

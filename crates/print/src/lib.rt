@@ -3,7 +3,7 @@
 use arithmetic::date::Date;
 use arithmetic::money::Cents;
 use arithmetic::whole::magnitude;
-ghost use Prim.Native.Nat.{_*_, _≤_};
+ghost use Prim.Native.Nat.{_*_, _≤_, _<_};
 ghost use mathlib.Core.List.{[], _∷_, _++_, map};
 ghost use lib.ListN.{length};
 ghost use Rattle.print.specs.Decimal.{twoDigits, fourDigits, digits, numberText, dateText, hyphen, tab, lineEnd};
@@ -50,27 +50,6 @@ pub fn put_line_end(buf: &mut [u8], at: usize) -> usize
     put(buf, at, b'\n')
 }
 
-// A number that is never negative, in as many digits as it needs.
-pub fn put_count(buf: &mut [u8], at: usize, n: u64) -> usize
-    ensures { λ r. ⌜ Wrote (now (buf .entry)) at (digits n) r (now (buf .exit)) ⌝ }
-{
-    if n < 10 {
-        return put(buf, at, 48 + n as u8);
-    }
-    let last = put_count(buf, at, n / 10);
-    put(buf, last, 48 + (n % 10) as u8)
-}
-
-pub fn put_number(buf: &mut [u8], at: usize, n: i64) -> usize
-    ensures { λ r. ⌜ Wrote (now (buf .entry)) at (numberText n) r (now (buf .exit)) ⌝ }
-{
-    if n < 0 {
-        let first = put(buf, at, b'-');
-        return put_count(buf, first, magnitude(n));
-    }
-    put_count(buf, at, magnitude(n))
-}
-
 fn put_two(buf: &mut [u8], at: usize, n: u16) -> usize
     ensures { λ r. ⌜ Wrote (now (buf .entry)) at (twoDigits n) r (now (buf .exit)) ⌝ }
 {
@@ -83,6 +62,55 @@ fn put_four(buf: &mut [u8], at: usize, n: u16) -> usize
 {
     let low = put_two(buf, at, n / 100);
     put_two(buf, low, n)
+}
+
+// A number of four digits at most.
+fn put_short(buf: &mut [u8], at: usize, n: u16) -> usize
+    requires { ⌜ n < 10000 ⌝ }
+    ensures { λ r. ⌜ Wrote (now (buf .entry)) at (digits n) r (now (buf .exit)) ⌝ }
+{
+    if n < 10 {
+        return put(buf, at, 48 + n as u8);
+    }
+    if n < 100 {
+        return put_two(buf, at, n);
+    }
+    if n < 1_000 {
+        let tens = put(buf, at, 48 + (n / 100) as u8);
+        return put_two(buf, tens, n);
+    }
+    put_four(buf, at, n)
+}
+
+// A number of any length, four digits at a time.
+fn put_long(buf: &mut [u8], at: usize, n: u64) -> usize
+    ensures { λ r. ⌜ Wrote (now (buf .entry)) at (digits n) r (now (buf .exit)) ⌝ }
+{
+    if n < 10_000 {
+        return put_short(buf, at, n as u16);
+    }
+    let low = put_long(buf, at, n / 10_000);
+    put_four(buf, low, (n % 10_000) as u16)
+}
+
+// A number that is never negative, in as many digits as it needs. Most figures of a sheet have one, so that comes first.
+pub fn put_count(buf: &mut [u8], at: usize, n: u64) -> usize
+    ensures { λ r. ⌜ Wrote (now (buf .entry)) at (digits n) r (now (buf .exit)) ⌝ }
+{
+    if n < 10 {
+        return put(buf, at, 48 + n as u8);
+    }
+    put_long(buf, at, n)
+}
+
+pub fn put_number(buf: &mut [u8], at: usize, n: i64) -> usize
+    ensures { λ r. ⌜ Wrote (now (buf .entry)) at (numberText n) r (now (buf .exit)) ⌝ }
+{
+    if n < 0 {
+        let first = put(buf, at, b'-');
+        return put_count(buf, first, magnitude(n));
+    }
+    put_count(buf, at, magnitude(n))
 }
 
 // The part of a date that follows another.
