@@ -93,7 +93,7 @@ fn put_long(buf: &mut [u8], at: usize, n: u64) -> usize
     put_four(buf, low, (n % 10_000) as u16)
 }
 
-// A number that is never negative, in as many digits as it needs. Most figures of a sheet have one, so that comes first.
+// A number that is never negative, in as many digits as it needs. Most figures of a sheet need one, so it comes first.
 pub fn put_count(buf: &mut [u8], at: usize, n: u64) -> usize
     ensures { λ r. ⌜ Wrote (now (buf .entry)) at (digits n) r (now (buf .exit)) ⌝ }
 {
