@@ -1,2 +1,3 @@
 pub mod Tape
+pub mod Fitting
 pub mod Account
