@@ -10,9 +10,8 @@ ghost use mathlib.Core.Path.{_≡_};
 ghost use mathlib.Core.List.{List};
 ghost use Prim.Native.Nat.{_+_, _≤_};
 ghost use lib.IntN.{ℤ};
+ghost use lib.ListN.{length};
 ghost use Rattle.arithmetic.specs.Whole.{leastOf};
-ghost use Rattle.vocabulary.specs.Interval.{windowsOf};
-ghost use Rattle.bounds.specs.Widening.{Reaching};
 ghost use Rattle.bounds.specs.Line.{noBounds, ledOf, NearWindows, SpreadWindows, Shown};
 
 // The bounds at each setpoint, in units, and after the last.
@@ -28,29 +27,39 @@ fn no_bounds() -> [i64; 900]
     [0i64; 900]
 }
 
-// The near window at each of the n setpoints after the first 302, on one side.
-fn nears(side: Side, interval: Interval, line: [i32; 1202], n: usize) -> [i32; 1202]
-    requires { ⌜ n ≤ 900 ⌝ }
-    ensures passes { λ r. ⌜ Reaching side line (windowsOf interval .near + 1) (302 + n) r ⌝ }
-    ensures windows { λ r. ⌜ NearWindows side interval line n r ⌝ }
+fn blank() -> [i32; 1202]
+    ensures { λ r. ⌜ length r ≡ 1202 ⌝ }
 {
-    let windows = interval.windows();
-    grown(side, line, 302 + n, 1, windows.near + 1)
+    [0i32; 1202]
 }
 
-// The spread window at each of them, made of the near ones: it stands where it ends.
-fn spreads(side: Side, interval: Interval, near: [i32; 1202], n: usize) -> [i32; 1202]
-    requires { ⌜ n ≤ 900 ⌝ }
-    ensures { λ r. ⌜ ((line : List ℤ) → Reaching side line (windowsOf interval .near + 1) (302 + n) near → SpreadWindows side interval line n r) ⌝ }
+// The near and the spread window at each of the n setpoints after the first 302, on one side. The spread one is made of the near
+// ones, and stands where it ends.
+fn show(
+    side: Side,
+    interval: Interval,
+    line: &[i32],
+    near: &mut [i32],
+    spread: &mut [i32],
+    aside: &mut [i32],
+    n: usize,
+)
+    requires { ⌜ (n ≤ 900) × ((302 + n ≤ length (now line)) × ((302 + n ≤ length (now near)) × ((302 + n ≤ length (now spread)) × (302 + n ≤ length (now aside))))) ⌝ }
+    ensures nears { λ r. ⌜ NearWindows side interval (now (line .entry)) n (now (near .exit)) ⌝ }
+    ensures spreads { λ r. ⌜ SpreadWindows side interval (now (line .entry)) n (now (spread .exit)) ⌝ }
 {
     let windows = interval.windows();
+    let reach = windows.near + 1;
+    grown(side, line, near, aside, 302 + n, 1, reach);
     grown(
         side,
         near,
+        spread,
+        aside,
         302 + n,
-        windows.near + 1,
+        reach,
         windows.to - windows.from + 1,
-    )
+    );
 }
 
 // The bounds at each of n setpoints, by the windows there.
@@ -58,14 +67,14 @@ fn bounded(
     interval: Interval,
     lot: u32,
     held: Bounds,
-    highest: [i32; 1202],
-    lowest: [i32; 1202],
-    most: [i32; 1202],
-    least: [i32; 1202],
+    highest: &[i32],
+    lowest: &[i32],
+    most: &[i32],
+    least: &[i32],
     n: usize,
 ) -> Led
-    requires { ⌜ n ≤ 900 ⌝ }
-    ensures { λ r. ⌜ ((line : List ℤ) → Shown interval line n highest lowest most least → r ≡ ledOf interval lot held line n) ⌝ }
+    requires { ⌜ (n ≤ 900) × ((302 + n ≤ length (now highest)) × ((302 + n ≤ length (now lowest)) × ((302 + n ≤ length (now most)) × (302 + n ≤ length (now least))))) ⌝ }
+    ensures { λ r. ⌜ ((line : List ℤ) → Shown interval line n (now (highest .entry)) (now (lowest .entry)) (now (most .entry)) (now (least .entry)) → r ≡ ledOf interval lot held line n) ⌝ }
 {
     let windows = interval.windows();
     let from = windows.from;
@@ -92,14 +101,48 @@ fn bounded(
     Led { last, ogas, ugas }
 }
 
+// OGA and UGA along n setpoints after the first 302 of a line, by its windows, for which arrays are lent.
+fn lead_with(
+    interval: Interval,
+    lot: u32,
+    held: Bounds,
+    line: &[i32],
+    highest: &mut [i32],
+    lowest: &mut [i32],
+    most: &mut [i32],
+    least: &mut [i32],
+    aside: &mut [i32],
+    n: usize,
+) -> Led
+    requires { ⌜ ((n ≤ 900) × (302 + n ≤ length (now line)))
+        × (((302 + n ≤ length (now highest)) × (302 + n ≤ length (now lowest))) × ((302 + n ≤ length (now most)) × ((302 + n ≤ length (now least)) × (302 + n ≤ length (now aside))))) ⌝ }
+    ensures { λ r. ⌜ r ≡ ledOf interval lot held (now (line .entry)) n ⌝ }
+{
+    show(Side::Upper, interval, line, highest, most, aside, n);
+    show(Side::Lower, interval, line, lowest, least, aside, n);
+    bounded(interval, lot, held, highest, lowest, most, least, n)
+}
+
 // OGA and UGA along the first `count` setpoints after the first 302 of a line, of 900 at most, from the bounds before them.
 pub fn lead(interval: Interval, lot: u32, held: Bounds, line: [i32; 1202], count: usize) -> Led
     ensures { λ r. ⌜ r ≡ ledOf interval lot held line (leastOf count 900) ⌝ }
 {
     let n = least(count as u64, 900) as usize;
-    let highest = nears(Side::Upper, interval, line, n);
-    let most = spreads(Side::Upper, interval, highest, n);
-    let lowest = nears(Side::Lower, interval, line, n);
-    let least = spreads(Side::Lower, interval, lowest, n);
-    bounded(interval, lot, held, highest, lowest, most, least, n)
+    let mut highest = blank();
+    let mut lowest = blank();
+    let mut most = blank();
+    let mut least = blank();
+    let mut aside = blank();
+    lead_with(
+        interval,
+        lot,
+        held,
+        &line,
+        &mut highest,
+        &mut lowest,
+        &mut most,
+        &mut least,
+        &mut aside,
+        n,
+    )
 }

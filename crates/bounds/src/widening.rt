@@ -49,18 +49,23 @@ fn grow(side: Side, x: &mut [i32], y: &mut [i32], len: usize, from: usize, to: u
     }
 }
 
-fn blank() -> [i32; 1202]
-    ensures { λ r. ⌜ length r ≡ 1202 ⌝ }
+// Windows of `from` setpoints made windows of `to` beside them: the first two passes go by way of what is lent aside.
+pub(crate) fn grown(
+    side: Side,
+    a: &[i32],
+    x: &mut [i32],
+    y: &mut [i32],
+    len: usize,
+    from: usize,
+    to: usize,
+)
+    requires { ⌜ ((len ≤ length (now a)) × ((len ≤ length (now x)) × (len ≤ length (now y)))) × ((0 < from) × ((from ≤ to) × (to ≤ 1202))) ⌝ }
+    ensures { λ r. ⌜ ((line : List ℤ) → Reaching side line from len (now (a .entry)) → Reaching side line to len (now (x .exit))) ⌝ }
 {
-    [0i32; 1202]
-}
-
-pub(crate) fn grown(side: Side, a: [i32; 1202], len: usize, from: usize, to: usize) -> [i32; 1202]
-    requires { ⌜ (len ≤ 1202) × ((0 < from) × ((from ≤ to) × (to ≤ 1202))) ⌝ }
-    ensures { λ r. ⌜ ((line : List ℤ) → Reaching side line from len a → Reaching side line to len r) ⌝ }
-{
-    let mut x = a;
-    let mut y = blank();
-    grow(side, &mut x, &mut y, len, from, to);
-    x
+    let d = step(from, to);
+    widen(side, a, y, len, from, d);
+    let wider = from + d;
+    let e = step(wider, to);
+    widen(side, y, x, len, wider, e);
+    grow(side, x, y, len, wider + e, to);
 }

@@ -18,11 +18,11 @@ use Rattle.bounds.proofs.line.bounded.Statement.{statement}
 use Rattle.bounds.proofs.line.bounded.Tie as tie
 
 abbrev Inv-loop : tie.InvT-loop
-Inv-loop interval lot n highest lowest most least from ogas₀ ugas₀ last₀ i₀ ogas ugas last i =
+Inv-loop interval lot highest lowest most least n from ogas₀ ugas₀ last₀ i₀ ogas ugas last i =
     (i ≤ n) × ((line : List ℤ) → Shown interval line n highest lowest most least → Midway interval lot line last₀ last ogas ugas i)
 
 abbrev μ-loop : tie.MeasureT-loop
-μ-loop interval lot n highest lowest most least from ogas₀ ugas₀ last₀ i₀ ogas ugas last i = n - i
+μ-loop interval lot highest lowest most least n from ogas₀ ugas₀ last₀ i₀ ogas ugas last i = n - i
 
 windows-requires : tie.Need-windows-requires Inv-loop μ-loop
 windows-requires c κs = tt
@@ -38,49 +38,49 @@ loop-holds c =
     let a = c .before .before .before .args in
     (omega arith, λ line s. rw (c .before .no-bounds .ensures, c .no-bounds2 .ensures) (midway-none (a .interval) (a .lot) line (a .held)))
 
+add-t22 : tie.Need-add-t22 Inv-loop μ-loop
+add-t22 c = omega arith
+
+mul-t23 : tie.Need-mul-t23 Inv-loop μ-loop
+mul-t23 c = omega arith
+
+shared-slice-copy-out-t25 : tie.Need-shared-slice-copy-out-t25 Inv-loop μ-loop
+shared-slice-copy-out-t25 c = omega arith
+
 add-t26 : tie.Need-add-t26 Inv-loop μ-loop
 add-t26 c = omega arith
 
 mul-t27 : tie.Need-mul-t27 Inv-loop μ-loop
 mul-t27 c = omega arith
 
-array-copy-out-t30 : tie.Need-array-copy-out-t30 Inv-loop μ-loop
-array-copy-out-t30 c = omega arith
+shared-slice-copy-out-t29 : tie.Need-shared-slice-copy-out-t29 Inv-loop μ-loop
+shared-slice-copy-out-t29 c = omega arith
 
-add-t31 : tie.Need-add-t31 Inv-loop μ-loop
-add-t31 c = omega arith
+add-t30 : tie.Need-add-t30 Inv-loop μ-loop
+add-t30 c = omega arith
+
+sub-t31 : tie.Need-sub-t31 Inv-loop μ-loop
+sub-t31 c = let w = within (c .before .before .before .before .before .before .before .args .interval) in rw (c .before .before .before .before .before .before .windows .ensures) (omega arith)
 
 mul-t32 : tie.Need-mul-t32 Inv-loop μ-loop
 mul-t32 c = omega arith
 
-array-copy-out-t35 : tie.Need-array-copy-out-t35 Inv-loop μ-loop
-array-copy-out-t35 c = omega arith
+shared-slice-copy-out-t34 : tie.Need-shared-slice-copy-out-t34 Inv-loop μ-loop
+shared-slice-copy-out-t34 c = omega arith
 
-add-t36 : tie.Need-add-t36 Inv-loop μ-loop
-add-t36 c = omega arith
+add-t35 : tie.Need-add-t35 Inv-loop μ-loop
+add-t35 c = omega arith
 
-sub-t37 : tie.Need-sub-t37 Inv-loop μ-loop
-sub-t37 c = let w = within (c .before .before .before .before .before .before .before .args .interval) in rw (c .before .before .before .before .before .before .windows .ensures) (omega arith)
-
-mul-t38 : tie.Need-mul-t38 Inv-loop μ-loop
-mul-t38 c = omega arith
-
-array-copy-out-t41 : tie.Need-array-copy-out-t41 Inv-loop μ-loop
-array-copy-out-t41 c = omega arith
-
-add-t42 : tie.Need-add-t42 Inv-loop μ-loop
-add-t42 c = omega arith
-
-sub-t43 : tie.Need-sub-t43 Inv-loop μ-loop
-sub-t43 c =
+sub-t36 : tie.Need-sub-t36 Inv-loop μ-loop
+sub-t36 c =
     let w = within (c .before .before .before .before .before .before .before .before .args .interval) in
     rw (c .before .before .before .before .before .before .before .windows .ensures) (omega arith)
 
-mul-t44 : tie.Need-mul-t44 Inv-loop μ-loop
-mul-t44 c = omega arith
+mul-t37 : tie.Need-mul-t37 Inv-loop μ-loop
+mul-t37 c = omega arith
 
-array-copy-out-t47 : tie.Need-array-copy-out-t47 Inv-loop μ-loop
-array-copy-out-t47 c = omega arith
+shared-slice-copy-out-t39 : tie.Need-shared-slice-copy-out-t39 Inv-loop μ-loop
+shared-slice-copy-out-t39 c = omega arith
 
 next-bounds-requires : tie.Need-next-bounds-requires Inv-loop μ-loop
 next-bounds-requires c κs = tt
@@ -111,18 +111,18 @@ loop-again c =
     let r = c .before .before .before .before .next-bounds .result in
     let windows = c .before .before .before .before .before .before .before .before .before .before .before .before .before .windows in
     let from = windows .result .from in
-    let high = toZ-ofZ w32 (getD (a .t4) (302 + l .i) (pos 0)) (sfits-of (c .before .before .before .before .before .before .before .before .t30 .given)) in
-    let low = toZ-ofZ w32 (getD (a .t5) (302 + l .i) (pos 0)) (sfits-of (c .before .before .before .before .before .before .before .t35 .given)) in
-    let most = toZ-ofZ w32 (getD (a .t6) (302 + l .i - from) (pos 0)) (sfits-of (c .before .before .before .before .before .before .t41 .given)) in
-    let least = toZ-ofZ w32 (getD (a .t7) (302 + l .i - from) (pos 0)) (sfits-of (c .before .before .before .before .before .t47 .given)) in
+    let high = toZ-ofZ w32 (getD (a .highest .now) (302 + l .i) (pos 0)) (sfits-of (c .before .before .before .before .before .before .before .before .t25 .given)) in
+    let low = toZ-ofZ w32 (getD (a .lowest .now) (302 + l .i) (pos 0)) (sfits-of (c .before .before .before .before .before .before .before .t29 .given)) in
+    let most = toZ-ofZ w32 (getD (a .most .now) (302 + l .i - from) (pos 0)) (sfits-of (c .before .before .before .before .before .before .t34 .given)) in
+    let least = toZ-ofZ w32 (getD (a .least .now) (302 + l .i - from) (pos 0)) (sfits-of (c .before .before .before .before .before .t39 .given)) in
     let oga : toZ w64 (ofZ w64 (r .oga .0)) ≡ r .oga .0 = back {z = r .oga .0} (c .before .struct-told .given .0 .1) in
     let uga : toZ w64 (ofZ w64 (r .uga .0)) ≡ r .uga .0 = back {z = r .uga .0} (c .struct-told2 .given .0 .1) in
     let e = rw (high, low, most, least, windows .ensures) at (c .before .before .before .before .next-bounds .ensures) in
-    let few : a .n ≤ 900 = start .pre in
+    let few : a .n ≤ 900 = start .pre .0 in
     let h = c .before .before .before .before .before .before .before .before .before .loop-test .taken in (
       omega arith,
       λ line s.
-          let m = midway-more (a .interval) (a .lot) line (a .held) (a .n) (a .t4) (a .t5) (a .t6) (a .t7) s few in
+          let m = midway-more (a .interval) (a .lot) line (a .held) (a .n) (a .highest .now) (a .lowest .now) (a .most .now) (a .least .now) s few in
           rw (oga, uga) (m (l .last) r (l .ogas) (l .ugas) (l .i) h e (l .inv .1 line s)),
     )
 
@@ -144,20 +144,20 @@ bounded-spec =
     no-bounds-requires
     no-bounds-requires-2
     loop-holds
+    add-t22
+    mul-t23
+    shared-slice-copy-out-t25
     add-t26
     mul-t27
-    array-copy-out-t30
-    add-t31
+    shared-slice-copy-out-t29
+    add-t30
+    sub-t31
     mul-t32
-    array-copy-out-t35
-    add-t36
-    sub-t37
-    mul-t38
-    array-copy-out-t41
-    add-t42
-    sub-t43
-    mul-t44
-    array-copy-out-t47
+    shared-slice-copy-out-t34
+    add-t35
+    sub-t36
+    mul-t37
+    shared-slice-copy-out-t39
     next-bounds-requires
     mul-ogas
     array-set-from-ogas

@@ -1,4 +1,4 @@
--- `bounds::line::lead` meets its contract: the windows are those of the line.
+-- `bounds::line::lead` meets its contract: there is room for the windows of all the setpoints.
 -- Assumes nothing.
 use native.Mathlib.Omega.{arith}
 use borrow.Author.Needs.{needs}
@@ -9,50 +9,63 @@ use Rattle.bounds.proofs.line.lead.Tie as tie
 least-requires : tie.Need-least-requires
 least-requires c κs = search needs
 
-nears-requires : tie.Need-nears-requires
-unfolding leastOf
-nears-requires c κs = omega (arith, c .least .ensures)
+blank-requires : tie.Need-blank-requires
+blank-requires c κs = search needs
 
-spreads-requires : tie.Need-spreads-requires
-unfolding leastOf
-spreads-requires c κs = omega (arith, c .before .least .ensures)
+blank-requires-2 : tie.Need-blank-requires-2
+blank-requires-2 c κs = search needs
 
-nears-requires-2 : tie.Need-nears-requires-2
-unfolding leastOf
-nears-requires-2 c κs = omega (arith, c .before .before .least .ensures)
+blank-requires-3 : tie.Need-blank-requires-3
+blank-requires-3 c κs = search needs
 
-spreads-requires-2 : tie.Need-spreads-requires-2
-unfolding leastOf
-spreads-requires-2 c κs = omega (arith, c .before .before .before .least .ensures)
+blank-requires-4 : tie.Need-blank-requires-4
+blank-requires-4 c κs = search needs
 
-bounded-requires : tie.Need-bounded-requires
+blank-requires-5 : tie.Need-blank-requires-5
+blank-requires-5 c κs = search needs
+
+slice-aggregate-lead-with : tie.Need-slice-aggregate-lead-with
+slice-aggregate-lead-with c = search needs
+
+slice-aggregate-lead-with-2 : tie.Need-slice-aggregate-lead-with-2
+slice-aggregate-lead-with-2 c = search needs
+
+slice-aggregate-lead-with-3 : tie.Need-slice-aggregate-lead-with-3
+slice-aggregate-lead-with-3 c = search needs
+
+slice-aggregate-lead-with-4 : tie.Need-slice-aggregate-lead-with-4
+slice-aggregate-lead-with-4 c = search needs
+
+slice-aggregate-lead-with-5 : tie.Need-slice-aggregate-lead-with-5
+slice-aggregate-lead-with-5 c = search needs
+
+slice-aggregate-lead-with-6 : tie.Need-slice-aggregate-lead-with-6
+slice-aggregate-lead-with-6 c = search needs
+
+lead-with-requires : tie.Need-lead-with-requires
 unfolding leastOf
-bounded-requires c κs = omega (arith, c .before .before .before .before .least .ensures)
+lead-with-requires c κs =
+    let at-blank = c .before .before .before .before .before .before .before .before .before .before in
+    omega (arith, at-blank .before .least .ensures, at-blank .before .before .good)
 
 returns : tie.Need-returns
-returns c =
-    let at-spreads = c .before .before .before in
-    let at-nears = at-spreads .before in
-    let at-least = at-nears .before in
-    let at-start = at-least .before in
-    let line = at-start .args .line in
-    rw (← at-least .least .ensures)
-    (c .bounded .ensures line
-    (record {
-      near-upper = at-nears .nears .ensures .1;
-      near-lower = c .before .before .nears2 .ensures .1;
-      spread-upper = at-spreads .spreads .ensures line (at-nears .nears .ensures .0);
-      spread-lower = c .before .spreads2 .ensures line (c .before .before .nears2 .ensures .0);
-    }))
+returns c = let at-lead = c .before .before .before .before .before in rw (← at-lead .before .before .before .before .before .before .before .before .before .before .before .before .least .ensures) (at-lead .lead-with .ensures)
 
 pub lead-spec : {M : Type 1} → statement M
 lead-spec =
     tie.close
     (tie.spec
     least-requires
-    nears-requires
-    spreads-requires
-    nears-requires-2
-    spreads-requires-2
-    bounded-requires
+    blank-requires
+    blank-requires-2
+    blank-requires-3
+    blank-requires-4
+    blank-requires-5
+    slice-aggregate-lead-with
+    slice-aggregate-lead-with-2
+    slice-aggregate-lead-with-3
+    slice-aggregate-lead-with-4
+    slice-aggregate-lead-with-5
+    slice-aggregate-lead-with-6
+    lead-with-requires
     returns)
