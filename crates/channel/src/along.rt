@@ -1,8 +1,9 @@
 // What leading a channel along up to 900 setpoints at once is made of: the ring and the setpoints as one line, and the ring after it.
 use crate::Channel;
 ghost use mathlib.Core.Path.{_≡_};
-ghost use Prim.Native.Nat.{_+_, _≤_, _<_};
-ghost use lib.ListN.{length};
+ghost use Prim.Native.Nat.{ℕ, _+_, _≤_, _<_};
+ghost use lib.IntN.{ℤ, pos};
+ghost use lib.ListN.{length, getD};
 ghost use Rattle.series.specs.Places.{Fills};
 ghost use Rattle.bounds.specs.Line.{noBounds};
 ghost use Rattle.channel.specs.Along.{agedAt, ringAt, Lined};
@@ -32,17 +33,27 @@ fn no_line() -> [i32; 1202]
     [0i32; 1202]
 }
 
+// Setpoints copied from a place on, to another from a place on: what a ring holds is two stretches of a line.
+fn copy(from: &[i32], start: usize, count: usize, out: &mut [i32], at: usize)
+    requires { ⌜ ((start + count ≤ length (now from)) × (length (now from) ≤ 1202)) × ((at + count ≤ length (now out)) × (length (now out) ≤ 1202)) ⌝ }
+    ensures { λ r. ⌜ ((f : ℕ → ℤ) → Fills f 0 at (now (out .entry)) → ((k : ℕ) → k < count → getD (now (from .entry)) (start + k) (pos 0) ≡ f (at + k))
+        → Fills f 0 (at + count) (now (out .exit))) ⌝ }
+{
+    let mut k = 0;
+    while k < count {
+        out[at + k] = from[start + k];
+        k += 1;
+    }
+}
+
 // A line that begins with the setpoints of the ring, oldest first.
 fn aged(ring: [i32; 302], newest: usize) -> [i32; 1202]
     requires { ⌜ newest < 302 ⌝ }
     ensures { λ r. ⌜ ((length ring ≡ 302) × (length r ≡ 1202)) × Fills (agedAt ring newest) 0 302 r ⌝ }
 {
     let mut out = no_line();
-    let mut k = 0;
-    while k < 302 {
-        out[k] = ring[(newest + 1 + k) % 302];
-        k += 1;
-    }
+    copy(&ring, newest + 1, 301 - newest, &mut out, 0);
+    copy(&ring, 0, newest + 1, &mut out, 301 - newest);
     out
 }
 
@@ -66,10 +77,7 @@ pub(crate) fn ringed(line: [i32; 1202], n: usize, newest: usize) -> [i32; 302]
     ensures { λ r. ⌜ (length r ≡ 302) × Fills (ringAt line n newest) 0 302 r ⌝ }
 {
     let mut ring = no_ring();
-    let mut k = 0;
-    while k < 302 {
-        ring[k] = line[301 + n - (newest + 302 - k) % 302];
-        k += 1;
-    }
+    copy(&line, 301 + n - newest, newest + 1, &mut ring, 0);
+    copy(&line, n, 301 - newest, &mut ring, newest + 1);
     ring
 }

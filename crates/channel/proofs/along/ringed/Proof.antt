@@ -1,95 +1,94 @@
--- `channel::along::ringed` meets its contract.
+-- `channel::along::ringed` meets its contract: the end of the line up to the newest, and before it in the line, after it in the ring, the rest.
 -- Assumes nothing.
-use Prim.Native.Nat.{_+_, _-_, _%_}
-use mathlib.Core.Path.{_≡_, _∙_}
+use Prim.Native.Nat.{ℕ, _<_, _+_, _-_, _%_}
 use native.Mathlib.Omega.{arith}
-use borrow.Author.Needs.{sfits-of}
-use lib.IntN.{pos}
-use lib.ListN.{length, getD, length-set}
-use mir.Syntax.{w32}
-use mir.ValLaws.{toZ-ofZ}
-use Rattle.series.specs.Places.{Fills}
+use borrow.Author.Needs.{needs}
+use mathlib.Core.Path.{_≡_}
+use mathlib.Core.List.{List}
+use lib.IntN.{ℤ, pos}
+use lib.ListN.{length, getD}
 use Rattle.bounds.specs.Widening.{backAt}
+use Rattle.series.proofs.Filling.{fills-none}
 use Rattle.channel.specs.Along.{ringAt}
-use Rattle.series.proofs.Filling.{fills-none, fills-more, fills-less}
 use Rattle.channel.proofs.along.ringed.Statement.{statement}
 use Rattle.channel.proofs.along.ringed.Tie as tie
 
-abbrev Inv-loop : tie.InvT-loop
-Inv-loop n newest line ring₀ k₀ ring k = (length ring ≡ 302) × Fills (ringAt line n newest) 0 k ring
-
-abbrev μ-loop : tie.MeasureT-loop
-μ-loop n newest line ring₀ k₀ ring k = 302 - k
-
-no-ring-requires : tie.Need-no-ring-requires Inv-loop μ-loop
-no-ring-requires c κs = tt
-
-loop-holds : tie.Need-loop-holds Inv-loop μ-loop
-loop-holds c = (c .no-ring .ensures, fills-none (ringAt (c .before .args .t1) (c .before .args .n) (c .before .args .newest)) 0 0 (c .no-ring .result) (omega arith))
-
-add-ring : tie.Need-add-ring Inv-loop μ-loop
-add-ring c = omega arith
-
-add-ring-2 : tie.Need-add-ring-2 Inv-loop μ-loop
-add-ring-2 c = omega arith
-
-sub-ring : tie.Need-sub-ring Inv-loop μ-loop
-sub-ring c = omega arith
-
-sub-ring-2 : tie.Need-sub-ring-2 Inv-loop μ-loop
-sub-ring-2 c = omega arith
-
-mul-ring : tie.Need-mul-ring Inv-loop μ-loop
-mul-ring c = omega arith
-
-array-copy-out-ring : tie.Need-array-copy-out-ring Inv-loop μ-loop
-array-copy-out-ring c = omega arith
-
-mul-ring-2 : tie.Need-mul-ring-2 Inv-loop μ-loop
-mul-ring-2 c = omega arith
-
-array-set-from-ring : tie.Need-array-set-from-ring Inv-loop μ-loop
-array-set-from-ring c = omega arith
-
-add-k : tie.Need-add-k Inv-loop μ-loop
-add-k c = omega arith
-
-loop-less : tie.Need-loop-less Inv-loop μ-loop
-loop-less c = omega arith
-
-loop-again : tie.Need-loop-again Inv-loop μ-loop
+-- the end of the line stands up to the newest
+newer-at : (line : List ℤ) (n newest : ℕ) → newest < 302 → (k : ℕ) → k < newest + 1 → getD line (301 + n - newest + k) (pos 0) ≡ ringAt line n newest (0 + k)
 unfolding ringAt backAt
-loop-again c =
-    let a = c .before .before .before .before .args in
-    let l = c .before .before .loop in
-    let z = getD (a .t1) (301 + a .n - (a .newest + 302 - l .k) % 302) (pos 0) in (
-      length-set (l .ring) (l .k) _ ∙ l .inv .0,
-      fills-more (ringAt (a .t1) (a .n) (a .newest)) 0 (l .k) (l .ring) _ (omega (arith, l .inv .0)) (toZ-ofZ w32 z (sfits-of (c .ring .given))) (l .inv .1),
-    )
+newer-at line n newest few k h =
+    let e : (newest + 302 - (0 + k)) % 302 ≡ newest - k = omega arith in
+    let f : 301 + n - (newest - k) ≡ 301 + n - newest + k = omega arith in
+    rw (e, f)
 
-returns : tie.Need-returns Inv-loop μ-loop
+-- what is before it in the line stands after it
+older-at : (line : List ℤ) (n newest k : ℕ) → k < 301 - newest → getD line (n + k) (pos 0) ≡ ringAt line n newest (newest + 1 + k)
+unfolding ringAt backAt
+older-at line n newest k h =
+    let e : (newest + 302 - (newest + 1 + k)) % 302 ≡ 301 - k = omega arith in
+    let f : 301 + n - (301 - k) ≡ n + k = omega arith in
+    rw (e, f)
+
+no-ring-requires : tie.Need-no-ring-requires
+no-ring-requires c κs = search needs
+
+slice-aggregate-copy : tie.Need-slice-aggregate-copy
+slice-aggregate-copy c = search needs
+
+add-copy : tie.Need-add-copy
+add-copy c = search needs
+
+sub-copy : tie.Need-sub-copy
+sub-copy c = search needs
+
+add-copy-2 : tie.Need-add-copy-2
+add-copy-2 c = search needs
+
+slice-aggregate-copy-2 : tie.Need-slice-aggregate-copy-2
+slice-aggregate-copy-2 c = search needs
+
+copy-requires : tie.Need-copy-requires
+copy-requires c κs = search needs
+
+slice-aggregate-copy-3 : tie.Need-slice-aggregate-copy-3
+slice-aggregate-copy-3 c = search needs
+
+sub-copy-2 : tie.Need-sub-copy-2
+sub-copy-2 c = search needs
+
+slice-aggregate-copy-4 : tie.Need-slice-aggregate-copy-4
+slice-aggregate-copy-4 c = search needs
+
+add-copy-3 : tie.Need-add-copy-3
+add-copy-3 c = search needs
+
+copy-requires-2 : tie.Need-copy-requires-2
+copy-requires-2 c κs = search needs
+
+returns : tie.Need-returns
 returns c =
-    let a = c .before .before .before .args in
-    let l = c .before .loop in
-    (l .inv .0, fills-less (ringAt (a .t1) (a .n) (a .newest)) 0 (l .k) 302 (l .ring) (omega arith) (l .inv .1))
+    let at-copy = c .before .before .before .before .before in
+    let a = at-copy .before .before .before .before .args in
+    let newer = at-copy .copy .ensures (ringAt (a .t1) (a .n) (a .newest)) (fills-none _ 0 0 _ (omega arith)) (newer-at (a .t1) (a .n) (a .newest) (omega arith)) in
+    let first : 0 + (a .newest + 1) ≡ a .newest + 1 = omega arith in
+    let all = c .before .copy2 .ensures (ringAt (a .t1) (a .n) (a .newest)) (rw first at newer) (older-at (a .t1) (a .n) (a .newest)) in
+    let e : a .newest + 1 + (301 - a .newest) ≡ 302 = omega arith in
+    (search needs, rw e at all)
 
 pub ringed-spec : {M : Type 1} → statement M
 ringed-spec =
     tie.close
     (tie.spec
-    Inv-loop
-    μ-loop
     no-ring-requires
-    loop-holds
-    add-ring
-    add-ring-2
-    sub-ring
-    sub-ring-2
-    mul-ring
-    array-copy-out-ring
-    mul-ring-2
-    array-set-from-ring
-    add-k
-    loop-less
-    loop-again
+    slice-aggregate-copy
+    add-copy
+    sub-copy
+    add-copy-2
+    slice-aggregate-copy-2
+    copy-requires
+    slice-aggregate-copy-3
+    sub-copy-2
+    slice-aggregate-copy-4
+    add-copy-3
+    copy-requires-2
     returns)
