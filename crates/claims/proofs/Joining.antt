@@ -25,7 +25,7 @@ use Rattle.claims.specs.Room.{Small}
 use Rattle.claims.specs.declared.claim.Claim.{Claim}
 
 -- f of each, at a place
-each-in : {X Y : Type 0} (f : X → Y) (l : List X) (k : ℕ) (x : X) (y : Y) → k < length l → getD (each f l) k y ≡ f (getD l k x)
+pub each-in : {X Y : Type 0} (f : X → Y) (l : List X) (k : ℕ) (x : X) (y : Y) → k < length l → getD (each f l) k y ≡ f (getD l k x)
 unfolding each
 each-in f [] k x y h = absurd (omega arith)
 each-in f (z ∷ l) zero x y h = refl

@@ -1,14 +1,14 @@
--- A part that nothing is on adds nothing to a sum or a slice, so it can be left out; and how the others are written down, sample by sample.
+-- An idle part adds nothing to a sum or a slice of any quantity but the actual, so it can be left out; and how the others are written down, sample by sample.
 -- Assumes nothing.
 use mathlib.Core.Path.{_≡_, refl, sym, ap, _∙_}
-use mathlib.Core.Bool.{Bool, true, false, cond, _&&_}
+use mathlib.Core.Bool.{Bool, true, false, true≢false, cond, _&&_}
 use mathlib.Core.List.{List, [], _∷_, _++_, append-nil}
 use Prim.Native.Nat.{ℕ, zero, suc, _+_, _-_, _*_, _%_, _^_, _≤_, _<_}
 use native.Mathlib.Omega.{arith}
 use native.Mathlib.Numerals.{add-one}
 use native.Mathlib.Nat.{mod-add-mod, zero-add}
 use borrow.Author.Count.{below-none, below-more}
-use borrow.Author.Tests.{eqb-true}
+use borrow.Author.Tests.{eqb-true, eq-eqb}
 use mir.Syntax.{w32}
 use mir.Val.{SFits}
 use lib.Dec.{eqb}
@@ -30,24 +30,33 @@ use Rattle.values.specs.declared.value.Quantity.{Quantity}
 use Rattle.values.specs.declared.value.Quantity.the-variants.{Setpoint, Actual, Acceptance, Surplus, Shortfall, UnderDelivery, Inner, Floor, Covered, Kept}
 use Rattle.values.specs.Part.{amountOf, acceptanceOf, floorOf, ceilingOf, coveredOf, surplusOf}
 use Rattle.claims.specs.Powers.{Samples, next, powersOf}
-use Rattle.claims.specs.Views.{partAt, partsOf, idleOf, busyOf, sumsOf}
+use Rattle.claims.specs.Views.{partAt, partsOf, deliveredOf, idleOf, busyOf, sumsOf}
 use Rattle.claims.specs.Room.{Level, Fitting, Faced, Roomy, Written, Viewed}
 use Rattle.claims.proofs.Joining.{along}
-use Rattle.claims.proofs.PowerLaws.{powers-are}
+use Rattle.claims.proofs.PowerLaws.{powers-are, powers-delivered}
 
 -- ---- nothing on a part
 
-no-surplus : (p : Part) → p .actual ≡ 0 → surplusOf p ≡ 0
-unfolding surplusOf leastOf
-no-surplus p a = go (eqb (p .outer .0) 0)
-  where
-    go : (t : Bool) → cond t 0 (leastOf (p .actual * 5400) (ceilingOf p) - p .outer .0) ≡ 0
-    go true = refl
-    go false = omega arith
+-- each quantity but the actual, which alone has no limit by setpoint and channel
+abbrev limited : Quantity → Bool
+limited Setpoint = true
+limited Actual = false
+limited Acceptance = true
+limited Surplus = true
+limited Shortfall = true
+limited UnderDelivery = true
+limited Inner = true
+limited Floor = true
+limited Covered = true
+limited Kept = true
 
-no-acceptance : (p : Part) → p .actual ≡ 0 → acceptanceOf p ≡ 0
+no-surplus : (p : Part) → p .outer .0 ≡ 0 → surplusOf p ≡ 0
+unfolding surplusOf
+no-surplus p o = rw (eq-eqb (p .outer .0) 0 o)
+
+no-acceptance : (p : Part) → p .outer .0 ≡ 0 → acceptanceOf p ≡ 0
 unfolding acceptanceOf leastOf
-no-acceptance p a = omega arith
+no-acceptance p o = omega arith
 
 no-floor : (p : Part) → p .inner .0 ≡ 0 → floorOf p ≡ 0
 unfolding floorOf leastOf
@@ -57,32 +66,32 @@ least-none : (m n : ℕ) → m ≡ 0 → leastOf m n ≡ 0
 unfolding leastOf
 least-none m n e = omega arith
 
-nothing : (q : Quantity) (p : Part) → p .setpoint ≡ 0 → p .actual ≡ 0 → p .inner .0 ≡ 0 → amountOf q p ≡ 0
+nothing : (q : Quantity) (p : Part) → limited q ≡ true → p .setpoint ≡ 0 → p .outer .0 ≡ 0 → p .inner .0 ≡ 0 → amountOf q p ≡ 0
 unfolding mostOf
-nothing Setpoint p s a i = omega arith
-nothing Actual p s a i = omega arith
-nothing Acceptance p s a i = no-acceptance p a
-nothing Surplus p s a i = no-surplus p a
-nothing Shortfall p s a i = omega arith
-nothing UnderDelivery p s a i = omega (arith, no-floor p i)
-nothing Inner p s a i = i
-nothing Floor p s a i = no-floor p i
-nothing Covered p s a i = omega (arith, no-acceptance p a, no-floor p i)
-nothing Kept p s a i = least-none (p .inner .0) (coveredOf p) i
+nothing Setpoint p l s o i = omega arith
+nothing Actual p l s o i = absurd (true≢false (sym l))
+nothing Acceptance p l s o i = no-acceptance p o
+nothing Surplus p l s o i = no-surplus p o
+nothing Shortfall p l s o i = omega arith
+nothing UnderDelivery p l s o i = omega (arith, no-floor p i)
+nothing Inner p l s o i = i
+nothing Floor p l s o i = no-floor p i
+nothing Covered p l s o i = omega (arith, no-acceptance p o, no-floor p i)
+nothing Kept p l s o i = least-none (p .inner .0) (coveredOf p) i
 
-idle-nothing : (q : Quantity) (p : Part) → idleOf p ≡ true → amountOf q p ≡ 0
+idle-nothing : (q : Quantity) (p : Part) → limited q ≡ true → idleOf p ≡ true → amountOf q p ≡ 0
 unfolding idleOf
-idle-nothing q p e =
-    let one = both (eqb (p .setpoint) 0) (eqb (p .actual) 0 && eqb (p .inner .0) 0) e in
-    let two = both (eqb (p .actual) 0) (eqb (p .inner .0) 0) (one .1) in
-    nothing q p (eqb-true (p .setpoint) 0 (one .0)) (eqb-true (p .actual) 0 (two .0)) (eqb-true (p .inner .0) 0 (two .1))
+idle-nothing q p l e =
+    let one = both (eqb (p .setpoint) 0) (eqb (p .outer .0) 0 && eqb (p .inner .0) 0) e in
+    let two = both (eqb (p .outer .0) 0) (eqb (p .inner .0) 0) (one .1) in
+    nothing q p l (eqb-true (p .setpoint) 0 (one .0)) (eqb-true (p .outer .0) 0 (two .0)) (eqb-true (p .inner .0) 0 (two .1))
 
 -- what is 0 for a power of 0 sums to the same with the idle parts and without them
-module _ (f : ℕ → ℕ) (z : f 0 ≡ 0) (q : Quantity) where
+module _ (f : ℕ → ℕ) (z : f 0 ≡ 0) (q : Quantity) (limit : limited q ≡ true) where
   one-idle : (b : Bool) (p : Part) (ps : List Part) → idleOf p ≡ b → overOf f (each (amountOf q) (busyOf ps)) ≡ overOf f (each (amountOf q) ps)
       → overOf f (each (amountOf q) (cond b (busyOf ps) (p ∷ busyOf ps))) ≡ overOf f (each (amountOf q) (p ∷ ps))
   unfolding overOf each
-  one-idle true p ps e same = rw (idle-nothing q p e, z) (omega (arith, same))
+  one-idle true p ps e same = rw (idle-nothing q p limit e, z) (omega (arith, same))
   one-idle false p ps e same = rw same
 
   pub busy-sum : (ps : List Part) → overOf f (each (amountOf q) (busyOf ps)) ≡ overOf f (each (amountOf q) ps)
@@ -98,12 +107,12 @@ above-none : (low : ℕ) → 0 - low ≡ 0
 above-none low = omega arith
 
 -- so the pieces are those of all the samples
-module _ (d : Direction) (x : Samples) (q : Quantity) where
+module _ (d : Direction) (x : Samples) (q : Quantity) (limit : limited q ≡ true) where
   abbrev busy : List ℕ
   busy = each (amountOf q) (busyOf (partsOf d x))
 
   same-sum : (f : ℕ → ℕ) → f 0 ≡ 0 → overOf f busy ≡ overOf f (powersOf d x q)
-  same-sum f z = rw (← powers-are d x q) (busy-sum f z q (partsOf d x))
+  same-sum f z = rw (← powers-are d x q) (busy-sum f z q limit (partsOf d x))
 
   sum-viewed : sumOf busy ≡ sumOf (powersOf d x q)
   sum-viewed = same-sum (λ v. v) refl
@@ -116,11 +125,11 @@ module _ (d : Direction) (x : Samples) (q : Quantity) where
       rw (slices, same-sum (λ v. v - lastOf limits) (above-none (lastOf limits)))
 
 -- and so are the sums, by what was written down
-module _ (d : Direction) (x : Samples) (limits asked delivered accepted required inner kept : List ℕ) (count surplus under : ℕ) where
-  pub sums-viewed : Written (busyOf (partsOf d x)) asked delivered accepted required inner kept count surplus under
+module _ (d : Direction) (x : Samples) (limits asked accepted required inner kept : List ℕ) (count surplus under : ℕ) where
+  pub sums-viewed : length (x .actuals) ≡ length (x .setpoints) → Written (busyOf (partsOf d x)) asked accepted required inner kept count surplus under
       → record {
         setpoint = piecesOf limits (take count asked);
-        actual = piecesOf limits (take count delivered);
+        actual = piecesOf limits (each (deliveredOf d) (x .actuals));
         acceptance = piecesOf limits (take count accepted);
         floor = piecesOf limits (take count required);
         inner = piecesOf limits (take count inner);
@@ -129,24 +138,23 @@ module _ (d : Direction) (x : Samples) (limits asked delivered accepted required
         «under_delivery» = under;
       } ≡ sumsOf (powersOf d x) limits
   unfolding sumsOf
-  sums-viewed w =
+  sums-viewed level w =
       rw (
+        powers-delivered d x level,
         w .asked,
-        w .delivered,
         w .accepted,
         w .required,
         w .inner,
         w .kept,
         w .surplus,
         w .under,
-        pieces-viewed d x Setpoint limits,
-        pieces-viewed d x Actual limits,
-        pieces-viewed d x Acceptance limits,
-        pieces-viewed d x Floor limits,
-        pieces-viewed d x Inner limits,
-        pieces-viewed d x Kept limits,
-        sum-viewed d x Surplus,
-        sum-viewed d x UnderDelivery,
+        pieces-viewed d x Setpoint refl limits,
+        pieces-viewed d x Acceptance refl limits,
+        pieces-viewed d x Floor refl limits,
+        pieces-viewed d x Inner refl limits,
+        pieces-viewed d x Kept refl limits,
+        sum-viewed d x Surplus refl,
+        sum-viewed d x UnderDelivery refl,
       )
 
 -- ---- one part more, or one that is left out
@@ -172,22 +180,21 @@ add-up : (f : Part → ℕ) (ps : List Part) (p : Part) (sum : ℕ) → sum ≡ 
     → (sum + f p) % 2 ^ 64 ≡ sumOf (each f (ps ++ (p ∷ []))) % 2 ^ 64
 add-up f ps p sum e = rw (e, each-end f ps p, over-snoc (λ w. w) (each f ps) (f p)) (mod-add-mod (sumOf (each f ps)) (2 ^ 64) (f p))
 
-module _ (asked delivered accepted required inner kept : List ℕ) where
-  pub written-none : Written [] asked delivered accepted required inner kept 0 0 0
+module _ (asked accepted required inner kept : List ℕ) where
+  pub written-none : Written [] asked accepted required inner kept 0 0 0
   unfolding each overOf
   written-none =
-      record { counted = refl; asked = refl; delivered = refl; accepted = refl; required = refl; inner = refl; kept = refl; surplus = refl; under = refl }
+      record { counted = refl; asked = refl; accepted = refl; required = refl; inner = refl; kept = refl; surplus = refl; under = refl }
 
-  module _ (ps : List Part) (p : Part) (count surplus under : ℕ) (room : Roomy asked delivered accepted required inner kept) (h : count < 900)
-      (w : Written ps asked delivered accepted required inner kept count surplus under) where
-    written-more : Written (ps ++ (p ∷ [])) (set asked count (amountOf Setpoint p)) (set delivered count (amountOf Actual p))
+  module _ (ps : List Part) (p : Part) (count surplus under : ℕ) (room : Roomy asked accepted required inner kept) (h : count < 900)
+      (w : Written ps asked accepted required inner kept count surplus under) where
+    written-more : Written (ps ++ (p ∷ [])) (set asked count (amountOf Setpoint p))
         (set accepted count (amountOf Acceptance p)) (set required count (amountOf Floor p)) (set inner count (amountOf Inner p))
         (set kept count (amountOf Kept p)) (count + 1) ((surplus + amountOf Surplus p) % 2 ^ 64) ((under + amountOf UnderDelivery p) % 2 ^ 64)
     written-more =
         record {
           counted = rw (length-append ps (p ∷ []), w .counted);
           asked = write-one (amountOf Setpoint) ps p asked count (omega (arith, room .asked)) (w .asked);
-          delivered = write-one (amountOf Actual) ps p delivered count (omega (arith, room .delivered)) (w .delivered);
           accepted = write-one (amountOf Acceptance) ps p accepted count (omega (arith, room .accepted)) (w .accepted);
           required = write-one (amountOf Floor) ps p required count (omega (arith, room .required)) (w .required);
           inner = write-one (amountOf Inner) ps p inner count (omega (arith, room .inner)) (w .inner);
@@ -196,33 +203,32 @@ module _ (asked delivered accepted required inner kept : List ℕ) where
           under = add-up (amountOf UnderDelivery) ps p under (w .under);
         }
 
-    room-more : (v1 v2 v3 v4 v5 v6 : ℕ)
-        → Roomy (set asked count v1) (set delivered count v2) (set accepted count v3) (set required count v4) (set inner count v5) (set kept count v6)
-    room-more v1 v2 v3 v4 v5 v6 =
+    room-more : (v1 v2 v3 v4 v5 : ℕ)
+        → Roomy (set asked count v1) (set accepted count v2) (set required count v3) (set inner count v4) (set kept count v5)
+    room-more v1 v2 v3 v4 v5 =
         record {
           asked = length-set asked count v1 ∙ room .asked;
-          delivered = length-set delivered count v2 ∙ room .delivered;
-          accepted = length-set accepted count v3 ∙ room .accepted;
-          required = length-set required count v4 ∙ room .required;
-          inner = length-set inner count v5 ∙ room .inner;
-          kept = length-set kept count v6 ∙ room .kept;
+          accepted = length-set accepted count v2 ∙ room .accepted;
+          required = length-set required count v3 ∙ room .required;
+          inner = length-set inner count v4 ∙ room .inner;
+          kept = length-set kept count v5 ∙ room .kept;
         }
 
 -- ---- the samples gone through
 
-module _ (d : Direction) (x : Samples) (asked delivered accepted required inner kept : List ℕ) where
-  pub viewed-none : Roomy asked delivered accepted required inner kept → Viewed d x asked delivered accepted required inner kept 0 0 0 0
+module _ (d : Direction) (x : Samples) (asked accepted required inner kept : List ℕ) where
+  pub viewed-none : Roomy asked accepted required inner kept → Viewed d x asked accepted required inner kept 0 0 0 0
   unfolding busyOf
   viewed-none room =
       record {
         room = room;
         few = omega arith;
-        written = written-none asked delivered accepted required inner kept;
+        written = written-none asked accepted required inner kept;
         fitting = below-none (λ k. SFits w32 (getD (x .setpoints) k (pos 0)) × SFits w32 (getD (x .actuals) k (pos 0)));
       }
 
   module _ (p : Part) (count surplus under i : ℕ) (h : i < length (x .setpoints)) (f : Faced d x i p)
-      (v : Viewed d x asked delivered accepted required inner kept count surplus under i) where
+      (v : Viewed d x asked accepted required inner kept count surplus under i) where
     fitting-more : Fitting (x .setpoints) (x .actuals) (i + 1)
     fitting-more =
         below-more (λ k. SFits w32 (getD (x .setpoints) k (pos 0)) × SFits w32 (getD (x .actuals) k (pos 0))) i (v .fitting) (f .setpoint, f .actual)
@@ -234,7 +240,7 @@ module _ (d : Direction) (x : Samples) (asked delivered accepted required inner 
     next-part : busyOf (take (i + 1) (partsOf d x)) ≡ busyOf (take i (partsOf d x)) ++ cond (idleOf p) [] (p ∷ [])
     next-part = rw (add-one) (busy-end (partsOf d x) i p (omega (arith, outputs-length next (partAt d x) 0 (x .setpoints))) ∙ rw here)
 
-    pub viewed-idle : idleOf p ≡ true → Viewed d x asked delivered accepted required inner kept count surplus under (i + 1)
+    pub viewed-idle : idleOf p ≡ true → Viewed d x asked accepted required inner kept count surplus under (i + 1)
     viewed-idle e =
         record {
           room = v .room;
@@ -244,23 +250,23 @@ module _ (d : Direction) (x : Samples) (asked delivered accepted required inner 
         }
 
     pub viewed-more : length (x .setpoints) ≤ 900 → idleOf p ≡ false
-        → Viewed d x (set asked count (amountOf Setpoint p)) (set delivered count (amountOf Actual p)) (set accepted count (amountOf Acceptance p))
+        → Viewed d x (set asked count (amountOf Setpoint p)) (set accepted count (amountOf Acceptance p))
         (set required count (amountOf Floor p)) (set inner count (amountOf Inner p)) (set kept count (amountOf Kept p)) (count + 1)
         ((surplus + amountOf Surplus p) % 2 ^ 64) ((under + amountOf UnderDelivery p) % 2 ^ 64) (i + 1)
     viewed-more few e =
         let fits : count < 900 = omega (arith, v .few) in
         record {
-          room = room-more asked delivered accepted required inner kept (busyOf (take i (partsOf d x))) p count surplus under (v .room) fits (v .written) _ _ _ _ _ _;
+          room = room-more asked accepted required inner kept (busyOf (take i (partsOf d x))) p count surplus under (v .room) fits (v .written) _ _ _ _ _;
           few = omega (arith, v .few);
           written =
               rw (next-part, e)
-              (written-more asked delivered accepted required inner kept (busyOf (take i (partsOf d x))) p count surplus under (v .room) fits (v .written));
+              (written-more asked accepted required inner kept (busyOf (take i (partsOf d x))) p count surplus under (v .room) fits (v .written));
           fitting = fitting-more;
         }
 
   -- all of them
-  pub viewed-all : (count surplus under : ℕ) → Viewed d x asked delivered accepted required inner kept count surplus under (length (x .setpoints))
-      → Written (busyOf (partsOf d x)) asked delivered accepted required inner kept count surplus under
+  pub viewed-all : (count surplus under : ℕ) → Viewed d x asked accepted required inner kept count surplus under (length (x .setpoints))
+      → Written (busyOf (partsOf d x)) asked accepted required inner kept count surplus under
   viewed-all count surplus under v =
       let all : take (length (x .setpoints)) (partsOf d x) ≡ partsOf d x =
       take-all (length (x .setpoints)) (partsOf d x) (omega (arith, outputs-length next (partAt d x) 0 (x .setpoints))) in

@@ -6,6 +6,7 @@ use mathlib.Core.List.{List, [], _∷_, _++_}
 use lib.Dec.{eqb}
 use lib.IntN.{ℤ, pos}
 use lib.ListN.{take, drop, getD}
+use Rattle.arithmetic.specs.Whole.{up, down}
 use Rattle.arithmetic.specs.Energy.{kwh, energyOf}
 use Rattle.arithmetic.specs.declared.energy.Kwh.{Kwh}
 use Rattle.series.specs.Scan.{outputs, each}
@@ -43,11 +44,16 @@ partAt d x i s = partOf d s (getD (x .actuals) i (pos 0)) (getD (x .ogas) i (pos
 abbrev pub partsOf : Direction → Samples → List Part
 partsOf d x = outputs next (partAt d x) 0 (x .setpoints)
 
--- nothing is on a part
-unfoldable pub idleOf : Part → Bool
-idleOf p = eqb (p .setpoint) 0 && (eqb (p .actual) 0 && eqb (p .inner .0) 0)
+-- what of an actual power a direction sees, in units
+abbrev pub deliveredOf : Direction → ℤ → ℕ
+deliveredOf Positive actual = up actual * 5400
+deliveredOf Negative actual = down actual * 5400
 
--- the parts that something is on
+-- neither the setpoint nor the channel is on a part: each of its quantities but the actual is 0 (proofs/Viewing)
+unfoldable pub idleOf : Part → Bool
+idleOf p = eqb (p .setpoint) 0 && (eqb (p .outer .0) 0 && eqb (p .inner .0) 0)
+
+-- the other parts
 unfoldable pub busyOf : List Part → List Part
 busyOf [] = []
 busyOf (p ∷ ps) = cond (idleOf p) (busyOf ps) (p ∷ busyOf ps)
@@ -56,7 +62,6 @@ unfoldable pub amountsOf : Part → Amounts
 amountsOf p =
     record {
       setpoint = amountOf Setpoint p;
-      actual = amountOf Actual p;
       acceptance = amountOf Acceptance p;
       surplus = amountOf Surplus p;
       «under_delivery» = amountOf UnderDelivery p;

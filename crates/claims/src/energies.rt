@@ -1,5 +1,6 @@
 // The sums of a quarter hour in one direction, each quantity cut once at the limits of all contracts, and the energies that they come to.
 use crate::claim::Rest;
+use crate::view::delivered;
 use crate::view::viewed;
 use arithmetic::energy::Kwh;
 use arithmetic::energy::energy;
@@ -12,8 +13,9 @@ ghost use Prim.Native.Nat.{ℕ, _+_, _*_, _≤_, _<_, _^_};
 ghost use lib.ListN.{length, take, getD};
 ghost use Rattle.series.specs.Sums.{sumOf};
 ghost use Rattle.series.specs.Scan.{each};
+ghost use Rattle.series.specs.Cuts.{piecesOf};
 ghost use Rattle.claims.specs.Powers.{samples, powersOf};
-ghost use Rattle.claims.specs.Views.{sumsOf, energyHeld, lessOf, shortOf, slicesOf, portionsOf, restIn};
+ghost use Rattle.claims.specs.Views.{deliveredOf, sumsOf, energyHeld, lessOf, shortOf, slicesOf, portionsOf, restIn};
 ghost use Rattle.claims.specs.Blank.{noEnergies};
 ghost use Rattle.claims.specs.Room.{Level, Fitting, Fits, AllFit};
 
@@ -57,6 +59,17 @@ fn no_energies() -> [Kwh; 32]
     [Kwh(0); 32]
 }
 
+// The pieces of what was delivered in a direction.
+fn pieces_delivered(direction: Direction, actuals: &[i32], upper: [u64; 32], count: usize) -> Pieces
+    requires { ⌜ length (now actuals) ≤ 900 ⌝ }
+    ensures { λ r. ⌜ r ≡ piecesOf (take count upper) (each (deliveredOf direction) (now (actuals .entry))) ⌝ }
+{
+    let mut series = no_powers();
+    delivered(direction, actuals, &mut series);
+    let n = actuals.len();
+    cut(&series[..n], upper, count)
+}
+
 // The sums of a direction, at the first `count` limits.
 pub(crate) fn summed(
     direction: Direction,
@@ -73,7 +86,6 @@ pub(crate) fn summed(
 {
     let blank = no_powers();
     let mut asked = blank;
-    let mut delivered = blank;
     let mut accepted = blank;
     let mut required = blank;
     let mut inner = blank;
@@ -85,7 +97,6 @@ pub(crate) fn summed(
         ogas,
         ugas,
         &mut asked,
-        &mut delivered,
         &mut accepted,
         &mut required,
         &mut inner,
@@ -94,7 +105,7 @@ pub(crate) fn summed(
     let n = seen.count;
     Sums {
         setpoint: cut(&asked[..n], upper, count),
-        actual: cut(&delivered[..n], upper, count),
+        actual: pieces_delivered(direction, actuals, upper, count),
         acceptance: cut(&accepted[..n], upper, count),
         floor: cut(&required[..n], upper, count),
         inner: cut(&inner[..n], upper, count),

@@ -1,5 +1,7 @@
 // What a direction sees of the samples of a quarter hour, as series of plain numbers that the caller lends.
 use arithmetic::power::Units;
+use arithmetic::whole::above_zero;
+use arithmetic::whole::below_zero;
 use std::num::wrapping_add_u64;
 use values::part::Part;
 use values::part::facing;
@@ -7,16 +9,17 @@ use values::value::Quantity;
 use values::value::amount;
 use vocabulary::direction::Direction;
 ghost use mathlib.Core.Path.{_≡_};
-ghost use Prim.Native.Nat.{_<_};
-ghost use lib.ListN.{length};
+ghost use mathlib.Core.List.{_++_};
+ghost use Prim.Native.Nat.{_≤_, _<_};
+ghost use lib.ListN.{length, drop};
+ghost use Rattle.series.specs.Scan.{each};
 ghost use Rattle.claims.specs.Powers.{samples};
-ghost use Rattle.claims.specs.Views.{idleOf, amountsOf};
+ghost use Rattle.claims.specs.Views.{deliveredOf, idleOf, amountsOf};
 ghost use Rattle.claims.specs.Room.{Level, Roomy, Faced, Viewed};
 
-// The quantities of one part that are summed over a quarter hour, in units.
+// The quantities of one part that are summed over a quarter hour, but for the actual, in units.
 pub struct Amounts {
     pub setpoint: u64,
-    pub actual: u64,
     pub acceptance: u64,
     pub surplus: u64,
     pub under_delivery: u64,
@@ -25,20 +28,43 @@ pub struct Amounts {
     pub kept: u64,
 }
 
-// How many parts have anything on them, and the sums of those quantities that no contract has a slice of.
+// How many parts are not idle, and the sums of those quantities that no contract has a slice of.
 pub struct Seen {
     pub count: usize,
     pub surplus: u64,
     pub under_delivery: u64,
 }
 
-// Whether nothing is on a part: then each of its quantities is 0, and it adds nothing to a sum or a slice.
+// What of an actual power a direction sees, in units.
+fn delivered_at(direction: Direction, actual: i32) -> u64
+    ensures { λ r. ⌜ r ≡ deliveredOf direction actual ⌝ }
+{
+    match direction {
+        Direction::Positive => (above_zero(actual) as u64) * 5400,
+        Direction::Negative => (below_zero(actual) as u64) * 5400,
+    }
+}
+
+// That of each sample, whether it is on this side or the other: on calm days that changes at random, so a test would cost more than it spares.
+pub(crate) fn delivered(direction: Direction, actuals: &[i32], out: &mut [u64])
+    requires { ⌜ length (now actuals) ≤ length (now out) ⌝ }
+    ensures { λ r. ⌜ now (out .exit) ≡ each (deliveredOf direction) (now (actuals .entry)) ++ drop (length (now (actuals .entry))) (now (out .entry)) ⌝ }
+{
+    let mut i: usize = 0;
+    while i < actuals.len() {
+        out[i] = delivered_at(direction, actuals[i]);
+        i += 1;
+    }
+}
+
+// Whether neither the setpoint nor the channel is on a part: then each of its quantities but the actual is 0, and it adds nothing to their sums and slices.
 fn idle(part: Part) -> bool
     ensures { λ r. ⌜ r ≡ idleOf part ⌝ }
 {
+    let outer = part.outer;
     let inner = part.inner;
     if part.setpoint == 0 {
-        if part.actual == 0 {
+        if outer.0 == 0 {
             return inner.0 == 0;
         }
     }
@@ -50,7 +76,6 @@ fn amounts_of(part: Part) -> Amounts
 {
     Amounts {
         setpoint: amount(Quantity::Setpoint, part).0,
-        actual: amount(Quantity::Actual, part).0,
         acceptance: amount(Quantity::Acceptance, part).0,
         surplus: amount(Quantity::Surplus, part).0,
         under_delivery: amount(Quantity::UnderDelivery, part).0,
@@ -77,7 +102,7 @@ fn faced(
     facing(direction, setpoints[i], actuals[i], oga, uga)
 }
 
-// Each quantity of the samples that has a slice, as a series of its own. A sample with nothing on the direction's side is left out.
+// Each other quantity of the samples that has a slice, as a series of its own. A sample that is idle on the direction's side is left out.
 pub(crate) fn viewed(
     direction: Direction,
     setpoints: &[i32],
@@ -85,15 +110,14 @@ pub(crate) fn viewed(
     ogas: &[i64],
     ugas: &[i64],
     asked: &mut [u64],
-    delivered: &mut [u64],
     accepted: &mut [u64],
     required: &mut [u64],
     inner: &mut [u64],
     kept: &mut [u64],
 ) -> Seen
-    requires { ⌜ Level (samples (now setpoints) (now actuals) (now ogas) (now ugas)) × Roomy (now asked) (now delivered) (now accepted) (now required) (now inner) (now kept) ⌝ }
+    requires { ⌜ Level (samples (now setpoints) (now actuals) (now ogas) (now ugas)) × Roomy (now asked) (now accepted) (now required) (now inner) (now kept) ⌝ }
     ensures { λ r. ⌜ Viewed direction (samples (now (setpoints .entry)) (now (actuals .entry)) (now (ogas .entry)) (now (ugas .entry)))
-        (now (asked .exit)) (now (delivered .exit)) (now (accepted .exit)) (now (required .exit)) (now (inner .exit)) (now (kept .exit))
+        (now (asked .exit)) (now (accepted .exit)) (now (required .exit)) (now (inner .exit)) (now (kept .exit))
         (r .count) (r .surplus) (r .«under_delivery») (length (now (setpoints .entry))) ⌝ }
 {
     let mut count: usize = 0;
@@ -108,7 +132,6 @@ pub(crate) fn viewed(
         }
         let amounts = amounts_of(part);
         asked[count] = amounts.setpoint;
-        delivered[count] = amounts.actual;
         accepted[count] = amounts.acceptance;
         required[count] = amounts.floor;
         inner[count] = amounts.inner;

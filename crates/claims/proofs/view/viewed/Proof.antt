@@ -1,4 +1,4 @@
--- `claims::view::viewed` meets its contract. The loop writes down each part that something is on (Viewing).
+-- `claims::view::viewed` meets its contract. The loop writes down each part that is not idle (Viewing).
 -- Assumes nothing.
 use Prim.Native.Nat.{_-_, _≤_, _<_}
 use mathlib.Core.Path.{_≡_, sym, _∙_}
@@ -12,13 +12,13 @@ use Rattle.claims.proofs.view.viewed.Statement.{statement}
 use Rattle.claims.proofs.view.viewed.Tie as tie
 
 abbrev Inv-loop : tie.InvT-loop
-Inv-loop direction setpoints actuals ogas ugas asked₀ delivered₀ accepted₀ required₀ inner₀ kept₀ count₀ surplus₀ under-delivery₀ i₀ asked delivered accepted required
+Inv-loop direction setpoints actuals ogas ugas asked₀ accepted₀ required₀ inner₀ kept₀ count₀ surplus₀ under-delivery₀ i₀ asked accepted required
     inner kept count surplus under-delivery i =
     (i ≤ length setpoints)
-    × Viewed direction (samples setpoints actuals ogas ugas) asked delivered accepted required inner kept count surplus under-delivery i
+    × Viewed direction (samples setpoints actuals ogas ugas) asked accepted required inner kept count surplus under-delivery i
 
 abbrev μ-loop : tie.MeasureT-loop
-μ-loop direction setpoints actuals ogas ugas asked₀ delivered₀ accepted₀ required₀ inner₀ kept₀ count₀ surplus₀ under-delivery₀ i₀ asked delivered accepted required
+μ-loop direction setpoints actuals ogas ugas asked₀ accepted₀ required₀ inner₀ kept₀ count₀ surplus₀ under-delivery₀ i₀ asked accepted required
     inner kept count surplus under-delivery i =
     length setpoints - i
 
@@ -26,18 +26,18 @@ abbrev μ-loop : tie.MeasureT-loop
 spot : (c : tie.After-amounts-of Inv-loop μ-loop) → c .before .before .before .before .before .loop .count < 900
 spot c =
     let test = c .before .before .before .before in
-    let s = test .before .before .before .before .before .before .before .before in
+    let s = test .before .before .before .before .before .before .before in
     omega (arith, test .before .loop .inv .1 .few, test .loop-test .taken, s .pre .0 .few)
 
 loop-holds : tie.Need-loop-holds Inv-loop μ-loop
 loop-holds c =
-    let s = c .before .before .before .before .before .before in
+    let s = c .before .before .before .before .before in
     let a = s .args in
     let x = samples (a .setpoints .now) (a .actuals .now) (a .ogas .now) (a .ugas .now) in
-    (omega arith, viewed-none (a .direction) x (a .asked .now) (a .delivered .now) (a .accepted .now) (a .required .now) (a .inner .now) (a .kept .now) (s .pre .1))
+    (omega arith, viewed-none (a .direction) x (a .asked .now) (a .accepted .now) (a .required .now) (a .inner .now) (a .kept .now) (s .pre .1))
 
 faced-requires : tie.Need-faced-requires Inv-loop μ-loop
-faced-requires c κs = (c .before .before .before .before .before .before .before .before .pre .0, c .loop-test .taken)
+faced-requires c κs = (c .before .before .before .before .before .before .before .pre .0, c .loop-test .taken)
 
 add-i : tie.Need-add-i Inv-loop μ-loop
 add-i c = omega arith
@@ -51,13 +51,13 @@ loop-less c = omega arith
 loop-again : tie.Need-loop-again Inv-loop μ-loop
 loop-again c =
     let l = c .before .before .before .before in
-    let s = l .before .before .before .before .before .before .before in
+    let s = l .before .before .before .before .before .before in
     let a = s .args in
     let x = samples (a .setpoints .now) (a .actuals .now) (a .ogas .now) (a .ugas .now) in
     let v = l .loop in
     let h = c .before .before .before .loop-test .taken in (
       omega arith,
-      viewed-idle (a .direction) x (v .asked) (v .delivered) (v .accepted) (v .required) (v .inner) (v .kept) (c .before .before .faced .result) (v .count)
+      viewed-idle (a .direction) x (v .asked) (v .accepted) (v .required) (v .inner) (v .kept) (c .before .before .faced .result) (v .count)
           (v .surplus) (v .under-delivery) (v .i) h (c .before .before .faced .ensures) (v .inv .1) (sym (c .before .idle .ensures) ∙ c .if1 .taken),
     )
 
@@ -69,12 +69,6 @@ mul-asked c = omega (arith, spot c)
 
 slice-write-asked : tie.Need-slice-write-asked Inv-loop μ-loop
 slice-write-asked c = omega (arith, spot c, c .before .before .before .before .before .loop .inv .1 .room .asked)
-
-mul-delivered : tie.Need-mul-delivered Inv-loop μ-loop
-mul-delivered c = omega (arith, spot c)
-
-slice-write-delivered : tie.Need-slice-write-delivered Inv-loop μ-loop
-slice-write-delivered c = omega (arith, spot c, c .before .before .before .before .before .loop .inv .1 .room .delivered)
 
 mul-accepted : tie.Need-mul-accepted Inv-loop μ-loop
 mul-accepted c = omega (arith, spot c)
@@ -118,7 +112,7 @@ loop-again-2 c =
     let amounts = c .before .before in
     let seen = amounts .before .before .before in
     let l = seen .before .before in
-    let s = l .before .before .before .before .before .before .before in
+    let s = l .before .before .before .before .before .before in
     let a = s .args in
     let x = samples (a .setpoints .now) (a .actuals .now) (a .ogas .now) (a .ugas .now) in
     let v = l .loop in
@@ -126,32 +120,29 @@ loop-again-2 c =
     let busy = sym (amounts .before .before .idle .ensures) ∙ amounts .before .if1 .left in
     rw (c .wrapping-add-u642 .ensures, c .before .wrapping-add-u64 .ensures, amounts .amounts-of .ensures) (
       omega arith,
-      viewed-more (a .direction) x (v .asked) (v .delivered) (v .accepted) (v .required) (v .inner) (v .kept) (seen .faced .result) (v .count) (v .surplus)
+      viewed-more (a .direction) x (v .asked) (v .accepted) (v .required) (v .inner) (v .kept) (seen .faced .result) (v .count) (v .surplus)
           (v .under-delivery) (v .i) h (seen .faced .ensures) (v .inv .1) (s .pre .0 .few) busy,
     )
 
 same-length : tie.Need-same-length Inv-loop μ-loop
-same-length c = omega (arith, c .before .loop .inv .1 .room .asked, c .before .before .before .before .before .before .before .before .pre .1 .asked)
+same-length c = omega (arith, c .before .loop .inv .1 .room .asked, c .before .before .before .before .before .before .before .pre .1 .asked)
 
 same-length-2 : tie.Need-same-length-2 Inv-loop μ-loop
-same-length-2 c = omega (arith, c .before .loop .inv .1 .room .delivered, c .before .before .before .before .before .before .before .before .pre .1 .delivered)
+same-length-2 c = omega (arith, c .before .loop .inv .1 .room .accepted, c .before .before .before .before .before .before .before .pre .1 .accepted)
 
 same-length-3 : tie.Need-same-length-3 Inv-loop μ-loop
-same-length-3 c = omega (arith, c .before .loop .inv .1 .room .accepted, c .before .before .before .before .before .before .before .before .pre .1 .accepted)
+same-length-3 c = omega (arith, c .before .loop .inv .1 .room .required, c .before .before .before .before .before .before .before .pre .1 .required)
 
 same-length-4 : tie.Need-same-length-4 Inv-loop μ-loop
-same-length-4 c = omega (arith, c .before .loop .inv .1 .room .required, c .before .before .before .before .before .before .before .before .pre .1 .required)
+same-length-4 c = omega (arith, c .before .loop .inv .1 .room .inner, c .before .before .before .before .before .before .before .pre .1 .inner)
 
 same-length-5 : tie.Need-same-length-5 Inv-loop μ-loop
-same-length-5 c = omega (arith, c .before .loop .inv .1 .room .inner, c .before .before .before .before .before .before .before .before .pre .1 .inner)
-
-same-length-6 : tie.Need-same-length-6 Inv-loop μ-loop
-same-length-6 c = omega (arith, c .before .loop .inv .1 .room .kept, c .before .before .before .before .before .before .before .before .pre .1 .kept)
+same-length-5 c = omega (arith, c .before .loop .inv .1 .room .kept, c .before .before .before .before .before .before .before .pre .1 .kept)
 
 returns : tie.Need-returns Inv-loop μ-loop
 returns c =
     let l = c .before .loop in
-    let a = c .before .before .before .before .before .before .before .before .args in
+    let a = c .before .before .before .before .before .before .before .args in
     let e : l .i ≡ length (a .setpoints .now) = omega (arith, l .inv .0, c .loop-test .left) in
     rw e at (l .inv .1)
 
@@ -170,8 +161,6 @@ viewed-spec =
     amounts-of-requires
     mul-asked
     slice-write-asked
-    mul-delivered
-    slice-write-delivered
     mul-accepted
     slice-write-accepted
     mul-required
@@ -190,5 +179,4 @@ viewed-spec =
     same-length-3
     same-length-4
     same-length-5
-    same-length-6
     returns)
