@@ -115,6 +115,17 @@ pub(crate) fn summed(
     }
 }
 
+// The energy of a sum. Most contracts of a calm quarter hour have none, which needs no division.
+fn energy_held(sum: u64, seconds: u64) -> Kwh
+    requires { ⌜ seconds * sum < 2 ^ 64 ⌝ }
+    ensures { λ r. ⌜ r ≡ energyHeld seconds sum ⌝ }
+{
+    if sum == 0 {
+        return Kwh(0);
+    }
+    energy(seconds * sum)
+}
+
 // The energy of each sum.
 fn energies(sums: [u64; 32], seconds: u64) -> [Kwh; 32]
     requires { ⌜ ((k : ℕ) → seconds * getD sums k 0 < 2 ^ 64) ⌝ }
@@ -123,7 +134,7 @@ fn energies(sums: [u64; 32], seconds: u64) -> [Kwh; 32]
     let mut out = no_energies();
     let mut k = 0;
     while k < 32 {
-        out[k] = energy(seconds * sums[k]);
+        out[k] = energy_held(sums[k], seconds);
         k += 1;
     }
     out

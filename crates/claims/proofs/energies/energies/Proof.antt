@@ -21,17 +21,14 @@ no-energies-requires c κs = tt
 loop-holds : tie.Need-loop-holds Inv-loop μ-loop
 loop-holds c = rw (c .no-energies .ensures) (mapped-none (energyHeld (c .before .args .seconds)) (c .before .args .t1) noEnergies)
 
-mul-energy : tie.Need-mul-energy Inv-loop μ-loop
-mul-energy c = omega arith
+mul-energy-held : tie.Need-mul-energy-held Inv-loop μ-loop
+mul-energy-held c = omega arith
 
-array-read-energy : tie.Need-array-read-energy Inv-loop μ-loop
-array-read-energy c = omega arith
+array-read-energy-held : tie.Need-array-read-energy-held Inv-loop μ-loop
+array-read-energy-held c = omega arith
 
-mul-energy-2 : tie.Need-mul-energy-2 Inv-loop μ-loop
-mul-energy-2 c = record { fits = c .before .before .before .pre (c .before .loop .k) }
-
-energy-requires : tie.Need-energy-requires Inv-loop μ-loop
-energy-requires c κs = tt
+energy-held-requires : tie.Need-energy-held-requires Inv-loop μ-loop
+energy-held-requires c κs = c .before .before .before .pre (c .before .loop .k)
 
 mul-out : tie.Need-mul-out Inv-loop μ-loop
 mul-out c = omega arith
@@ -46,11 +43,10 @@ loop-less : tie.Need-loop-less Inv-loop μ-loop
 loop-less c = omega arith
 
 loop-again : tie.Need-loop-again Inv-loop μ-loop
-unfolding energyHeld
 loop-again c =
     let s = c .before .before .before .before in
     let l = c .before .before .loop in
-    rw (c .energy .ensures)
+    rw (c .energy-held .ensures)
     (mapped-more (energyHeld (s .args .seconds)) (s .args .t1) noEnergies (l .out) (l .k) 0 (omega (arith, energies-32, s .good))
     (omega (arith, s .good, c .before .loop-test .taken)) (l .inv))
 
@@ -69,10 +65,9 @@ energies-spec =
     μ-loop
     no-energies-requires
     loop-holds
-    mul-energy
-    array-read-energy
-    mul-energy-2
-    energy-requires
+    mul-energy-held
+    array-read-energy-held
+    energy-held-requires
     mul-out
     array-set-from-out
     add-k
