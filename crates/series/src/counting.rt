@@ -14,11 +14,6 @@ ghost use Rattle.series.specs.Cuts.{piecesOf, lowAt};
 ghost use Rattle.series.specs.Counts.{noPlaces, highAt, Placed, Ran, Stepped, Counted, Orderly};
 
 // What ends at each place: place k is the k-th slice, the last place all that lies above the last limit.
-struct Counts {
-    counts: [u64; 33],
-    parts: [u64; 33],
-}
-
 fn no_places() -> [u64; 33]
     ensures { λ r. ⌜ r ≡ noPlaces ⌝ }
 {
@@ -132,13 +127,11 @@ fn first_run(powers: &[u64], limits: &[u64], from: usize) -> Step
     }
 }
 
-// The powers counted by place.
-fn tally(powers: &[u64], limits: &[u64]) -> Counts
-    requires { ⌜ Orderly (now limits) ⌝ }
-    ensures { λ r. ⌜ Counted (now (limits .entry)) (now (powers .entry)) (r .counts) (r .parts) (length (now (powers .entry))) ⌝ }
+// The powers counted by place, into two arrays that the caller lends, so that they are not copied.
+fn tally(powers: &[u64], limits: &[u64], counts: &mut [u64], parts: &mut [u64])
+    requires { ⌜ Orderly (now limits) × ((now counts ≡ noPlaces) × (now parts ≡ noPlaces)) ⌝ }
+    ensures { λ r. ⌜ Counted (now (limits .entry)) (now (powers .entry)) (now (counts .exit)) (now (parts .exit)) (length (now (powers .entry))) ⌝ }
 {
-    let mut counts = no_places();
-    let mut parts = no_places();
     let mut place: usize = 0;
     let mut at: usize = 0;
     while at < powers.len() {
@@ -148,10 +141,6 @@ fn tally(powers: &[u64], limits: &[u64]) -> Counts
         parts[place] = wrapping_add_u64(parts[place], step.sum);
         at += step.count;
     }
-    Counts {
-        counts: counts,
-        parts: parts,
-    }
 }
 
 // The pieces by counting: the width of a slice for each power that ends above it, and what the others reach into it.
@@ -159,9 +148,9 @@ pub(crate) fn counted(powers: &[u64], limits: &[u64]) -> Pieces
     requires { ⌜ Orderly (now limits) × (length (now powers) ≤ 2 ^ 15) ⌝ }
     ensures { λ r. ⌜ r ≡ piecesOf (now (limits .entry)) (now (powers .entry)) ⌝ }
 {
-    let known = tally(powers, limits);
-    let counts = known.counts;
-    let parts = known.parts;
+    let mut counts = no_places();
+    let mut parts = no_places();
+    tally(powers, limits, &mut counts, &mut parts);
     let mut sums = no_sums();
     let mut low: u64 = 0;
     let mut higher = powers.len() as u64;

@@ -1,6 +1,7 @@
 -- `series::counting::counted` meets its contract. The loop stores the sums of the slices so far (Cuts).
 -- Assumes nothing.
 use native.Mathlib.Omega.{arith}
+use borrow.Author.Needs.{needs}
 use Prim.Native.Nat.{_-_}
 use lib.ListN.{length}
 use Rattle.series.proofs.Cuts.{Summing, Turn, summing-none, summing-turn, summing-all}
@@ -18,27 +19,40 @@ abbrev Here : Type 0
 Here = tie.After-shared-slice-known3 Inv-loop μ-loop
 
 abbrev start : Here → tie.Start Inv-loop μ-loop
-start c = c .before .before .before .before .before .before .before .before .before
+start c = c .before .before .before .before .before .before .before .before .before .before .before .before .before
 
 -- what the turn of a slice asks and gives
 turn : (c : Here) → let t = c .before .before .before .before .before .before .tally in let l = c .before .before .loop in
-    Turn (start c .args .limits .now) (start c .args .powers .now) (t .result .counts) (t .result .parts) (l .sums) (l .low) (l .higher) (l .k)
+    Turn (start c .args .limits .now) (start c .args .powers .now) (t .last .1 .1 .0) (t .last .1 .1 .1 .0) (l .sums) (l .low) (l .higher) (l .k)
 turn c =
     let t = c .before .before .before .before .before .before .tally in
     let l = c .before .before .loop in
-    summing-turn (start c .args .limits .now) (start c .args .powers .now) (t .result .counts) (t .result .parts)
+    summing-turn (start c .args .limits .now) (start c .args .powers .now) (t .last .1 .1 .0) (t .last .1 .1 .1 .0)
     (record { orderly = start c .pre .0; few = start c .pre .1; counted = t .ensures }) (l .sums) (l .low) (l .higher) (l .k) (l .inv) (c .before .loop-test .taken)
 
+no-places-requires : tie.Need-no-places-requires Inv-loop μ-loop
+no-places-requires c κs = tt
+
+no-places-requires-2 : tie.Need-no-places-requires-2 Inv-loop μ-loop
+no-places-requires-2 c κs = tt
+
+slice-aggregate-tally : tie.Need-slice-aggregate-tally Inv-loop μ-loop
+slice-aggregate-tally c = search needs
+
+slice-aggregate-tally-2 : tie.Need-slice-aggregate-tally-2 Inv-loop μ-loop
+slice-aggregate-tally-2 c = search needs
+
 tally-requires : tie.Need-tally-requires Inv-loop μ-loop
-tally-requires c κs = c .before .before .pre .0
+tally-requires c κs =
+    (c .before .before .before .before .before .before .pre .0, (c .before .before .before .no-places .ensures, c .before .before .no-places2 .ensures))
 
 no-sums-requires : tie.Need-no-sums-requires Inv-loop μ-loop
 no-sums-requires c κs = tt
 
 loop-holds : tie.Need-loop-holds Inv-loop μ-loop
 loop-holds c =
-    let s = c .before .before .before .before .before .before in
-    rw (c .no-sums .ensures) (summing-none (s .args .limits .now) (s .args .powers .now) (c .before .before .before .tally .result .counts))
+    let s = c .before .before .before .before .before .before .before .before .before .before in
+    rw (c .no-sums .ensures) (summing-none (s .args .limits .now) (s .args .powers .now) (c .before .before .before .tally .last .1 .1 .0))
 
 mul-high : tie.Need-mul-high Inv-loop μ-loop
 mul-high c = omega arith
@@ -85,20 +99,19 @@ loop-less c = omega (arith, c .before .before .loop-test .taken)
 loop-again : tie.Need-loop-again Inv-loop μ-loop
 loop-again c = turn (c .before) .again (c .wrapping-add-u64 .result) (c .wrapping-add-u64 .ensures)
 
-mul-t12 : tie.Need-mul-t12 Inv-loop μ-loop
-mul-t12 c = record { fits = omega (arith, c .before .loop .inv .storing .scanned .within, c .before .before .before .before .before .before .before .before .pre .0 .few) }
+mul-t17 : tie.Need-mul-t17 Inv-loop μ-loop
+mul-t17 c = record { fits = omega (arith, c .before .loop .inv .storing .scanned .within, c .before .before .before .before .before .before .before .before .before .before .before .before .pre .0 .few) }
 
-array-read-t29 : tie.Need-array-read-t29 Inv-loop μ-loop
-array-read-t29 c = omega (arith, c .before .loop .inv .storing .scanned .within, c .before .before .before .before .before .before .before .before .pre .0 .few)
+array-read-t34 : tie.Need-array-read-t34 Inv-loop μ-loop
+array-read-t34 c = omega (arith, c .before .loop .inv .storing .scanned .within, c .before .before .before .before .before .before .before .before .before .before .before .before .pre .0 .few)
 
 returns : tie.Need-returns Inv-loop μ-loop
 returns c =
     let at-tally = c .before .before .before .before .before in
-    let at-place = at-tally .before .before .before in
-    let s = at-place in
+    let s = at-tally .before .before .before .before .before .before .before in
     let l = c .before .loop in
     let t = at-tally .tally in
-    summing-all (s .args .limits .now) (s .args .powers .now) (t .result .counts) (t .result .parts)
+    summing-all (s .args .limits .now) (s .args .powers .now) (t .last .1 .1 .0) (t .last .1 .1 .1 .0)
     (record { orderly = s .pre .0; few = s .pre .1; counted = t .ensures })
     (l .sums) (l .low) (l .higher) (l .k) (l .inv) (c .loop-test .left)
 
@@ -108,6 +121,10 @@ counted-spec =
     (tie.spec
     Inv-loop
     μ-loop
+    no-places-requires
+    no-places-requires-2
+    slice-aggregate-tally
+    slice-aggregate-tally-2
     tally-requires
     no-sums-requires
     loop-holds
@@ -126,6 +143,6 @@ counted-spec =
     add-k
     loop-less
     loop-again
-    mul-t12
-    array-read-t29
+    mul-t17
+    array-read-t34
     returns)

@@ -3,9 +3,10 @@
 use mathlib.Core.Path.{_≡_}
 use Rattle.series.proofs.Lists.{from-place}
 use native.Mathlib.Omega.{arith}
-use Prim.Native.Nat.{_+_, _-_, _*_, _^_, _≤_, _<_}
+use mathlib.Core.List.{List, []}
+use Prim.Native.Nat.{ℕ, _+_, _-_, _*_, _^_, _≤_, _<_}
 use lib.ListN.{length, drop, length-drop}
-use Rattle.series.specs.Counts.{Stepped, Counted}
+use Rattle.series.specs.Counts.{noPlaces, Stepped, Counted}
 use Rattle.series.proofs.Sums.{sum-at}
 use Rattle.series.proofs.Counts.{counted-none, counted-more}
 use Rattle.series.proofs.counting.tally.Statement.{statement}
@@ -30,7 +31,17 @@ stepped : (c : Here) → let r = c .first-run .result in let at = c .before .bef
 stepped c = rw (from-place (start c .args .powers .now) (c .before .before .before .loop .at)) at (c .first-run .ensures)
 
 place-33 : (c : Here) → c .first-run .result .place < 33
-place-33 c = omega (arith, stepped c .within, start c .pre .few)
+place-33 c = omega (arith, stepped c .within, start c .pre .0 .few)
+
+-- the arrays have 33 places, as they had when they were lent
+lent : (l : List ℕ) → l ≡ noPlaces → length l ≡ 33
+lent l e = rw e (counted-none [] [] .places)
+
+in-counts : (c : Here) → c .first-run .result .place < length (c .before .before .before .loop .counts)
+in-counts c = omega (arith, place-33 c, c .before .before .before .loop .inv .1 .places)
+
+in-parts : (c : Here) → c .first-run .result .place < length (c .before .before .before .loop .parts)
+in-parts c = omega (arith, place-33 c, c .before .before .before .loop .inv .1 .parted)
 
 place-fits : (c : Here) → c .first-run .result .place * 8 < 2 ^ 64
 place-fits c = omega (arith, place-33 c)
@@ -38,16 +49,10 @@ place-fits c = omega (arith, place-33 c)
 ends : (c : Here) → c .before .before .before .loop .at + c .first-run .result .count ≤ length (start c .args .powers .now)
 ends c = omega (arith, stepped c .ran .within, length-drop (c .before .before .before .loop .at) (start c .args .powers .now), c .before .before .loop-test .taken)
 
-no-places-requires : tie.Need-no-places-requires Inv-loop μ-loop
-no-places-requires c κs = tt
-
-no-places-requires-2 : tie.Need-no-places-requires-2 Inv-loop μ-loop
-no-places-requires-2 c κs = tt
-
 loop-holds : tie.Need-loop-holds Inv-loop μ-loop
 loop-holds c =
     let s = c .before .before .before .before in
-    (omega arith, rw (c .before .no-places .ensures, c .no-places2 .ensures) (counted-none (s .args .limits .now) (s .args .powers .now)))
+    (omega arith, rw (s .pre .1 .0, s .pre .1 .1) (counted-none (s .args .limits .now) (s .args .powers .now)))
 
 mul-first-run : tie.Need-mul-first-run Inv-loop μ-loop
 mul-first-run c = omega arith
@@ -70,48 +75,55 @@ first-run-requires c κs =
 mul-counts : tie.Need-mul-counts Inv-loop μ-loop
 mul-counts c = record { fits = place-fits c }
 
-array-read-counts : tie.Need-array-read-counts Inv-loop μ-loop
-array-read-counts c = place-33 c
+slice-read-counts : tie.Need-slice-read-counts Inv-loop μ-loop
+slice-read-counts c = in-counts (c .before)
 
 add-counts : tie.Need-add-counts Inv-loop μ-loop
 add-counts c =
-    let l = c .before .before .before .loop in
-    record { fits = omega (arith, sum-at (l .counts) (c .first-run .result .place), l .inv .1 .counted, ends c, start c .good) }
+    let here = c .before in
+    let l = here .before .before .before .loop in
+    record { fits = omega (arith, sum-at (l .counts) (here .first-run .result .place), l .inv .1 .counted, ends here, start here .good) }
 
 mul-counts-2 : tie.Need-mul-counts-2 Inv-loop μ-loop
-mul-counts-2 c = record { fits = place-fits c }
+mul-counts-2 c = record { fits = place-fits (c .before) }
 
-array-write-counts : tie.Need-array-write-counts Inv-loop μ-loop
-array-write-counts c = place-33 c
+slice-write-counts : tie.Need-slice-write-counts Inv-loop μ-loop
+slice-write-counts c = in-counts (c .before)
 
 mul-wrapping-add-u64 : tie.Need-mul-wrapping-add-u64 Inv-loop μ-loop
-mul-wrapping-add-u64 c = record { fits = place-fits c }
+mul-wrapping-add-u64 c = record { fits = place-fits (c .before) }
 
-array-read-wrapping-add-u64 : tie.Need-array-read-wrapping-add-u64 Inv-loop μ-loop
-array-read-wrapping-add-u64 c = place-33 c
+slice-read-wrapping-add-u64 : tie.Need-slice-read-wrapping-add-u64 Inv-loop μ-loop
+slice-read-wrapping-add-u64 c = in-parts (c .before .before)
 
 wrapping-add-u64-requires : tie.Need-wrapping-add-u64-requires Inv-loop μ-loop
 wrapping-add-u64-requires c κs = tt
 
 mul-parts : tie.Need-mul-parts Inv-loop μ-loop
-mul-parts c = record { fits = place-fits (c .before) }
+mul-parts c = record { fits = place-fits (c .before .before .before) }
 
-array-write-parts : tie.Need-array-write-parts Inv-loop μ-loop
-array-write-parts c = place-33 (c .before)
+slice-write-parts : tie.Need-slice-write-parts Inv-loop μ-loop
+slice-write-parts c = in-parts (c .before .before .before)
 
 add-at : tie.Need-add-at Inv-loop μ-loop
-add-at c = record { fits = omega (arith, ends (c .before .before), start (c .before .before) .good) }
+add-at c = let here = c .before .before .before .before in record { fits = omega (arith, ends here, start here .good) }
 
 loop-less : tie.Need-loop-less Inv-loop μ-loop
-loop-less c = omega (arith, ends (c .before .before), stepped (c .before .before) .some)
+loop-less c = let here = c .before .before .before .before in omega (arith, ends here, stepped here .some)
 
 loop-again : tie.Need-loop-again Inv-loop μ-loop
 loop-again c =
-    let here = c .before .before in
+    let here = c .before .before .before .before in
     let s = start here in
     let l = here .before .before .before .loop in
-    let more = counted-more (s .args .limits .now) (s .args .powers .now) (l .counts) (l .parts) (l .at) _ _ _ (s .pre) (l .inv .1) (stepped here) in
+    let more = counted-more (s .args .limits .now) (s .args .powers .now) (l .counts) (l .parts) (l .at) _ _ _ (s .pre .0) (l .inv .1) (stepped here) in
     (stepped here .within, rw (c .before .wrapping-add-u64 .ensures) more)
+
+same-length : tie.Need-same-length Inv-loop μ-loop
+same-length c = let s = c .before .before .before .before .before .before in omega (arith, c .before .loop .inv .1 .places, lent (s .args .counts .now) (s .pre .1 .0))
+
+same-length-2 : tie.Need-same-length-2 Inv-loop μ-loop
+same-length-2 c = let s = c .before .before .before .before .before .before in omega (arith, c .before .loop .inv .1 .parted, lent (s .args .parts .now) (s .pre .1 .1))
 
 returns : tie.Need-returns Inv-loop μ-loop
 returns c =
@@ -126,8 +138,6 @@ tally-spec =
     (tie.spec
     Inv-loop
     μ-loop
-    no-places-requires
-    no-places-requires-2
     loop-holds
     mul-first-run
     sub-first-run
@@ -135,16 +145,18 @@ tally-spec =
     part-first-run-end
     first-run-requires
     mul-counts
-    array-read-counts
+    slice-read-counts
     add-counts
     mul-counts-2
-    array-write-counts
+    slice-write-counts
     mul-wrapping-add-u64
-    array-read-wrapping-add-u64
+    slice-read-wrapping-add-u64
     wrapping-add-u64-requires
     mul-parts
-    array-write-parts
+    slice-write-parts
     add-at
     loop-less
     loop-again
+    same-length
+    same-length-2
     returns)
