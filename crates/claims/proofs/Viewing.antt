@@ -1,7 +1,7 @@
 -- An idle part adds nothing to a sum or a slice of any quantity but the actual, so it can be left out; and how the others are written down, sample by sample.
 -- Assumes nothing.
 use mathlib.Core.Path.{_≡_, refl, sym, ap, _∙_}
-use mathlib.Core.Bool.{Bool, true, false, true≢false, cond, _&&_}
+use mathlib.Core.Bool.{Bool, true, false, true≢false, cond, _&&_, _||_}
 use mathlib.Core.List.{List, [], _∷_, _++_, append-nil}
 use Prim.Native.Nat.{ℕ, zero, suc, _+_, _-_, _*_, _%_, _^_, _≤_, _<_}
 use native.Mathlib.Omega.{arith}
@@ -37,7 +37,7 @@ use Rattle.claims.proofs.PowerLaws.{powers-are, powers-delivered}
 
 -- ---- nothing on a part
 
--- each quantity but the actual, which alone has no limit by setpoint and channel
+-- each quantity but the actual, which neither setpoint nor channel limits
 abbrev limited : Quantity → Bool
 limited Setpoint = true
 limited Actual = false
@@ -50,13 +50,22 @@ limited Floor = true
 limited Covered = true
 limited Kept = true
 
-no-surplus : (p : Part) → p .outer .0 ≡ 0 → surplusOf p ≡ 0
-unfolding surplusOf
-no-surplus p o = rw (eq-eqb (p .outer .0) 0 o)
+-- where the channel does not reach a part or nothing is delivered on it, nothing is accepted, and there is no surplus
+unreached : (p : Part) → p .outer .0 ≡ 0 → (acceptanceOf p ≡ 0) × (surplusOf p ≡ 0)
+unfolding acceptanceOf surplusOf leastOf
+unreached p o = (omega arith, rw (eq-eqb (p .outer .0) 0 o))
 
-no-acceptance : (p : Part) → p .outer .0 ≡ 0 → acceptanceOf p ≡ 0
-unfolding acceptanceOf leastOf
-no-acceptance p o = omega arith
+undelivered : (p : Part) → p .actual ≡ 0 → (acceptanceOf p ≡ 0) × (surplusOf p ≡ 0)
+unfolding acceptanceOf surplusOf leastOf
+undelivered p a = (omega arith, go (eqb (p .outer .0) 0))
+  where
+    go : (t : Bool) → cond t 0 (leastOf (p .actual * 5400) (ceilingOf p) - p .outer .0) ≡ 0
+    go true = refl
+    go false = omega arith
+
+unaccepted : (p : Part) (t : Bool) → eqb (p .outer .0) 0 ≡ t → (t || eqb (p .actual) 0) ≡ true → (acceptanceOf p ≡ 0) × (surplusOf p ≡ 0)
+unaccepted p true o e = unreached p (eqb-true (p .outer .0) 0 o)
+unaccepted p false o e = undelivered p (eqb-true (p .actual) 0 e)
 
 no-floor : (p : Part) → p .inner .0 ≡ 0 → floorOf p ≡ 0
 unfolding floorOf leastOf
@@ -66,25 +75,25 @@ least-none : (m n : ℕ) → m ≡ 0 → leastOf m n ≡ 0
 unfolding leastOf
 least-none m n e = omega arith
 
-nothing : (q : Quantity) (p : Part) → limited q ≡ true → p .setpoint ≡ 0 → p .outer .0 ≡ 0 → p .inner .0 ≡ 0 → amountOf q p ≡ 0
+nothing : (q : Quantity) (p : Part) → limited q ≡ true → p .setpoint ≡ 0 → (acceptanceOf p ≡ 0) × (surplusOf p ≡ 0) → p .inner .0 ≡ 0 → amountOf q p ≡ 0
 unfolding mostOf
-nothing Setpoint p l s o i = omega arith
-nothing Actual p l s o i = absurd (true≢false (sym l))
-nothing Acceptance p l s o i = no-acceptance p o
-nothing Surplus p l s o i = no-surplus p o
-nothing Shortfall p l s o i = omega arith
-nothing UnderDelivery p l s o i = omega (arith, no-floor p i)
-nothing Inner p l s o i = i
-nothing Floor p l s o i = no-floor p i
-nothing Covered p l s o i = omega (arith, no-acceptance p o, no-floor p i)
-nothing Kept p l s o i = least-none (p .inner .0) (coveredOf p) i
+nothing Setpoint p l s a i = omega arith
+nothing Actual p l s a i = absurd (true≢false (sym l))
+nothing Acceptance p l s a i = a .0
+nothing Surplus p l s a i = a .1
+nothing Shortfall p l s a i = omega arith
+nothing UnderDelivery p l s a i = omega (arith, no-floor p i)
+nothing Inner p l s a i = i
+nothing Floor p l s a i = no-floor p i
+nothing Covered p l s a i = omega (arith, a .0, no-floor p i)
+nothing Kept p l s a i = least-none (p .inner .0) (coveredOf p) i
 
 idle-nothing : (q : Quantity) (p : Part) → limited q ≡ true → idleOf p ≡ true → amountOf q p ≡ 0
 unfolding idleOf
 idle-nothing q p l e =
-    let one = both (eqb (p .setpoint) 0) (eqb (p .outer .0) 0 && eqb (p .inner .0) 0) e in
-    let two = both (eqb (p .outer .0) 0) (eqb (p .inner .0) 0) (one .1) in
-    nothing q p l (eqb-true (p .setpoint) 0 (one .0)) (eqb-true (p .outer .0) 0 (two .0)) (eqb-true (p .inner .0) 0 (two .1))
+    let one = both (eqb (p .setpoint) 0) ((eqb (p .outer .0) 0 || eqb (p .actual) 0) && eqb (p .inner .0) 0) e in
+    let two = both (eqb (p .outer .0) 0 || eqb (p .actual) 0) (eqb (p .inner .0) 0) (one .1) in
+    nothing q p l (eqb-true (p .setpoint) 0 (one .0)) (unaccepted p (eqb (p .outer .0) 0) refl (two .0)) (eqb-true (p .inner .0) 0 (two .1))
 
 -- what is 0 for a power of 0 sums to the same with the idle parts and without them
 module _ (f : ℕ → ℕ) (z : f 0 ≡ 0) (q : Quantity) (limit : limited q ≡ true) where

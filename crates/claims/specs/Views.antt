@@ -1,7 +1,7 @@
 -- A quarter hour as the code goes through it: what a direction sees of each sample, the sums over it, and the energies by them. That these are the energies
 -- in the words of the rules is a law (proofs/Portions).
 use Prim.Native.Nat.{ℕ, _+_, _*_, _-_, _%_, _^_}
-use mathlib.Core.Bool.{Bool, cond, _&&_}
+use mathlib.Core.Bool.{Bool, cond, _&&_, _||_}
 use mathlib.Core.List.{List, [], _∷_, _++_}
 use lib.Dec.{eqb}
 use lib.IntN.{ℤ, pos}
@@ -49,9 +49,10 @@ abbrev pub deliveredOf : Direction → ℤ → ℕ
 deliveredOf Positive actual = up actual * 5400
 deliveredOf Negative actual = down actual * 5400
 
--- neither the setpoint nor the channel is on a part: each of its quantities but the actual is 0 (proofs/Viewing)
+-- neither setpoint nor inner bound is on a part, and nothing is accepted, as the channel does not reach it or nothing is delivered: then each of its
+-- quantities but the actual is 0 (proofs/Viewing)
 unfoldable pub idleOf : Part → Bool
-idleOf p = eqb (p .setpoint) 0 && (eqb (p .outer .0) 0 && eqb (p .inner .0) 0)
+idleOf p = eqb (p .setpoint) 0 && ((eqb (p .outer .0) 0 || eqb (p .actual) 0) && eqb (p .inner .0) 0)
 
 -- the other parts
 unfoldable pub busyOf : List Part → List Part

@@ -45,7 +45,7 @@ fn delivered_at(direction: Direction, actual: i32) -> u64
     }
 }
 
-// That of each sample, whether it is on this side or the other: on calm days that changes at random, so a test would cost more than it spares.
+// That of each sample, without a test of the side that it is on, which on calm days would cost more than it spares.
 pub(crate) fn delivered(direction: Direction, actuals: &[i32], out: &mut [u64])
     requires { ⌜ length (now actuals) ≤ length (now out) ⌝ }
     ensures { λ r. ⌜ now (out .exit) ≡ each (deliveredOf direction) (now (actuals .entry)) ++ drop (length (now (actuals .entry))) (now (out .entry)) ⌝ }
@@ -57,7 +57,8 @@ pub(crate) fn delivered(direction: Direction, actuals: &[i32], out: &mut [u64])
     }
 }
 
-// Whether neither the setpoint nor the channel is on a part: then each of its quantities but the actual is 0, and it adds nothing to their sums and slices.
+// Whether nothing is asked for, required or accepted on a part: then each of its quantities but the actual is 0, and it adds nothing to their sums and slices.
+// Where the channel does not reach the part, the actual is not looked at: on calm days it is on this side or the other at random.
 fn idle(part: Part) -> bool
     ensures { λ r. ⌜ r ≡ idleOf part ⌝ }
 {
@@ -65,6 +66,9 @@ fn idle(part: Part) -> bool
     let inner = part.inner;
     if part.setpoint == 0 {
         if outer.0 == 0 {
+            return inner.0 == 0;
+        }
+        if part.actual == 0 {
             return inner.0 == 0;
         }
     }
