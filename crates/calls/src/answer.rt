@@ -60,7 +60,7 @@ pub(crate) fn showed(printed: Printed, out: &[u8]) {
 }
 
 // The buffer that a printing call was lent, whole.
-fn buffer(lent: &[u8]) {
+pub(crate) fn buffer(lent: &[u8]) {
     io::write_all(STDOUT_FILENO, lent);
     io::write_all(STDOUT_FILENO, b"\n");
 }
@@ -71,11 +71,5 @@ pub(crate) fn showed_whole(line: u64, printed: Printed, lent: &[u8]) {
         Printed::Length(n) => counted(line, Refusal::None, n as u64),
         Printed::TooShort => answered(line, Refusal::BufferTooShort),
     }
-    buffer(lent);
-}
-
-// A printing call that is refused for another reason, and the buffer that stays as it is.
-pub(crate) fn refused_whole(line: u64, refusal: Refusal, lent: &[u8]) {
-    answered(line, refusal);
     buffer(lent);
 }

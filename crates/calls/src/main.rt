@@ -167,11 +167,9 @@ fn take(run: Run, at: u64) -> Taken {
     taken
 }
 
-// The printing call of a line.
-fn printed(held: Taken, line: &[u8], out: &mut [u8]) -> Printed {
+// The printing calls whose numbers all stand in the line.
+fn printed_numbers(line: &[u8], out: &mut [u8]) -> Printed {
     match script::letter(line, 0) {
-        b'Q' => print_quarter(out, script::byte(line, 3), held.sheets),
-        b'P' => print_block(out, held.run.end().past),
         b'V' => print_head(
             out,
             script::date(line, 3),
@@ -192,28 +190,55 @@ fn printed(held: Taken, line: &[u8], out: &mut [u8]) -> Printed {
     }
 }
 
-// A printing call, and the whole buffer that it was lent. The length of the text, which is printed first where it has room, may decide how much is
-// lent.
-fn print(held: Taken, at: u64, line: &[u8]) {
+fn printed_block(run: Run, out: &mut [u8]) -> Printed {
+    let ended = run.end();
+    print_block(out, ended.past)
+}
+
+// The printing call of a line.
+fn printed(held: Taken, line: &[u8], out: &mut [u8]) -> Printed {
+    match script::letter(line, 0) {
+        b'Q' => print_quarter(out, script::byte(line, 3), held.sheets),
+        b'P' => printed_block(held.run, out),
+        _ => printed_numbers(line, out),
+    }
+}
+
+// The length of the text of a printing call, which is printed where it has room.
+fn text_length(held: Taken, line: &[u8]) -> u64 {
     let mut whole = answer::dotted();
-    let text = answer::length_of(printed(held, line, &mut whole));
-    let n = script::lent(line, text);
+    answer::length_of(printed(held, line, &mut whole))
+}
+
+// A printing call, and the whole buffer that it was lent. The length of the text may decide how much is lent.
+fn print(held: Taken, at: u64, line: &[u8]) {
+    let n = script::lent(line, text_length(held, line));
     let mut buf = answer::dotted();
     let lent = &mut buf[..n];
     let told = printed(held, line, lent);
     answer::showed_whole(at, told, lent);
 }
 
+// A printing call that is refused for another reason than its buffer, which stays as it is.
+fn not_printed(at: u64, refusal: Refusal, line: &[u8]) {
+    answer::answered(at, refusal);
+    let n = script::lent(line, 0);
+    let buf = answer::dotted();
+    answer::buffer(&buf[..n]);
+}
+
+fn end_refusal(run: Run) -> Refusal {
+    let ended = run.end();
+    ended.refusal
+}
+
 // The block that the run hands on, once it can be ended; before that no byte is printed.
 fn block(held: Taken, at: u64, line: &[u8]) {
-    let ended = held.run.end();
-    let refusal = ended.refusal;
+    let refusal = end_refusal(held.run);
     if refusal.number() == 0 {
         return print(held, at, line);
     }
-    let n = script::lent(line, 0);
-    let buf = answer::dotted();
-    answer::refused_whole(at, refusal, &buf[..n]);
+    not_printed(at, refusal, line);
 }
 
 // The call of a line, which is the `at`-th of the script. What is held from call to call is what the last taking answered, with the run at hand in it;

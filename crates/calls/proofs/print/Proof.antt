@@ -7,33 +7,24 @@ use lib.Seq.{length-take-le}
 use Rattle.calls.proofs.print.Statement.{statement}
 use Rattle.calls.proofs.print.Tie as tie
 
-dotted-requires : tie.Need-dotted-requires
-dotted-requires c κs = search needs
-
-slice-aggregate-printed : tie.Need-slice-aggregate-printed
-slice-aggregate-printed c = search needs
-
-printed-requires : tie.Need-printed-requires
-printed-requires c κs = search needs
-
-length-of-requires : tie.Need-length-of-requires
-length-of-requires c κs = search needs
+text-length-requires : tie.Need-text-length-requires
+text-length-requires c κs = search needs
 
 lent-requires : tie.Need-lent-requires
 lent-requires c κs = search needs
 
-dotted-requires-2 : tie.Need-dotted-requires-2
-dotted-requires-2 c κs = search needs
+dotted-requires : tie.Need-dotted-requires
+dotted-requires c κs = search needs
 
 array-borrow-prefix-buf : tie.Need-array-borrow-prefix-buf
 array-borrow-prefix-buf c = search needs
 
 slice-aggregate-lent : tie.Need-slice-aggregate-lent
 slice-aggregate-lent c =
-    sym (length-take-le _ _ (omega (arith, c .before .dotted2 .ensures, c .before .before .lent .ensures)))
+    sym (length-take-le _ _ (omega (arith, c .before .dotted .ensures, c .before .before .lent .ensures)))
 
-printed-requires-2 : tie.Need-printed-requires-2
-printed-requires-2 c κs = search needs
+printed-requires : tie.Need-printed-requires
+printed-requires c κs = search needs
 
 showed-whole-requires : tie.Need-showed-whole-requires
 showed-whole-requires c κs = search needs
@@ -45,14 +36,11 @@ pub print-spec : {M : Type 1} → statement M
 print-spec =
     tie.close
     (tie.spec
-    dotted-requires
-    slice-aggregate-printed
-    printed-requires
-    length-of-requires
+    text-length-requires
     lent-requires
-    dotted-requires-2
+    dotted-requires
     array-borrow-prefix-buf
     slice-aggregate-lent
-    printed-requires-2
+    printed-requires
     showed-whole-requires
     returns)
