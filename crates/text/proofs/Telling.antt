@@ -17,8 +17,8 @@ use Rattle.lines.specs.Turns.{quiet}
 use Rattle.reading.specs.Line.{lineOf}
 use Rattle.reading.specs.declared.Line.{Line}
 use Rattle.reading.specs.declared.Line.the-variants as L
-use Rattle.text.specs.Desk.{Turn, Tells, deskAt, refusedTurn, unless, takenText, quarterTurn, firstTurn, nextTurn, turnAt, lineTurn, closedAt, finishAt, finishTurn, answerOf}
-use Rattle.text.specs.Serving.{Turned, toldBy, early, late, misplacedAt, servedTurn, placedTurn}
+use Rattle.text.specs.Desk.{Turn, Tells, deskAt, refusedTurn, openTurn, answeredTurn, sampleTurn, endTurn, unless, takenText, quarterTurn, firstTurn, nextTurn, turnAt, lineTurn, closedAt, finishAt, finishTurn, answerOf}
+use Rattle.text.specs.Serving.{Turned, toldBy, early, late, misplacedAt, servedTurn, askedOf, followedTurn, placedTurn}
 use Rattle.settlement.specs.declared.run.Run.{Run}
 use Rattle.settlement.specs.Run.{takenOf}
 use Rattle.settlement.specs.Many.{roomOf}
@@ -87,6 +87,19 @@ module _ (desk : Desk) (number : ℕ) (line : List ℕ) where
   next-placed (L.Sample sample) = refl
   next-placed L.End = refl
   next-placed L.Malformed = refl
+
+  -- it is served by what the run answers, and by what follows
+  pub served-asked : (said : Line)
+      → unless desk number (askedOf (desk .run) line said .refusal) (followedTurn (deskAt Open (askedOf (desk .run) line said .run)) number said)
+      ≡ servedTurn desk number line said
+  unfolding servedTurn askedOf followedTurn answeredTurn sampleTurn openTurn endTurn refusedTurn
+  served-asked (L.Header header) = refl
+  served-asked (L.Bounds bounds) = refl
+  served-asked (L.Setpoint setpoint) = refl
+  served-asked (L.Contract contract) = refl
+  served-asked (L.Sample sample) = refl
+  served-asked L.End = refl
+  served-asked L.Malformed = refl
 
   at-stage : (stage : Stage) → closedAt stage ≡ false
       → unless desk number (misplacedAt stage (lineOf line)) (servedTurn desk number line (lineOf line)) ≡ turnAt stage desk number line

@@ -6,17 +6,19 @@ use lib.ListN.{length}
 use Rattle.vocabulary.specs.declared.refusal.Refusal.{Refusal}
 use Rattle.vocabulary.specs.declared.refusal.Refusal.the-variants.{None, WrongMoment, BadLine}
 use Rattle.settlement.specs.declared.run.Run.{Run}
-use Rattle.settlement.specs.Run.{withBoundsOf, withSetpointOf, contractedOf, headingOf}
+use Rattle.settlement.specs.declared.run.Answer.{Answer}
+use Rattle.settlement.specs.Run.{withBoundsOf, withSetpointOf, contractedOf, sampledOf, headingOf}
 use Rattle.sheets.specs.Buffer.{bufferLength, printAnswer, printInto}
 use Rattle.sheets.specs.declared.Printed.{Printed}
 use Rattle.reading.specs.Line.{identifierOf}
 use Rattle.reading.specs.declared.Line.{Line}
 use Rattle.reading.specs.declared.Line.the-variants as L
+use Rattle.lines.specs.Turns.{quiet}
 use Rattle.text.specs.declared.desk.Stage.{Stage}
 use Rattle.text.specs.declared.desk.Stage.the-variants.{Empty, Open, Closed}
 use Rattle.text.specs.declared.desk.Desk.{Desk}
 use Rattle.text.specs.declared.desk.Told.{Told}
-use Rattle.text.specs.Desk.{Turn, deskAt, headOf, unless, refusedTurn, openTurn, answeredTurn, sampleTurn, endTurn}
+use Rattle.text.specs.Desk.{Turn, deskAt, headOf, unless, refusedTurn, openTurn, answeredTurn, quarterTurn, sampleTurn, endTurn}
 
 -- what is wrong with a line before the header
 abbrev pub early : Line → Refusal
@@ -52,6 +54,29 @@ servedTurn desk number line (L.Contract contract) = answeredTurn desk number (co
 servedTurn desk number line (L.Sample sample) = sampleTurn desk number sample
 servedTurn desk number line L.End = endTurn desk number
 servedTurn desk number line L.Malformed = refusedTurn desk number BadLine
+
+-- what the run answers to it: a header, the end and a malformed line ask nothing of it here
+abbrev pub unaskedOf : Run → Refusal → Answer
+unaskedOf run refusal = record { run = run; refusal = refusal }
+
+unfoldable pub askedOf : Run → List ℕ → Line → Answer
+askedOf run line (L.Header header) = unaskedOf run None
+askedOf run line (L.Bounds bounds) = withBoundsOf run bounds
+askedOf run line (L.Setpoint setpoint) = withSetpointOf run setpoint
+askedOf run line (L.Contract contract) = contractedOf run contract (identifierOf line)
+askedOf run line (L.Sample sample) = sampledOf run (sample .setpoint) (sample .actual)
+askedOf run line L.End = unaskedOf run None
+askedOf run line L.Malformed = unaskedOf run BadLine
+
+-- and what follows where it refuses nothing
+unfoldable pub followedTurn : Desk → ℕ → Line → Turn
+followedTurn desk number (L.Header header) = openTurn desk number header
+followedTurn desk number (L.Bounds bounds) = quiet desk
+followedTurn desk number (L.Setpoint setpoint) = quiet desk
+followedTurn desk number (L.Contract contract) = quiet desk
+followedTurn desk number (L.Sample sample) = quarterTurn (desk .run)
+followedTurn desk number L.End = endTurn desk number
+followedTurn desk number L.Malformed = quiet desk
 
 unfoldable pub placedTurn : Desk → ℕ → List ℕ → Line → Turn
 placedTurn desk number line said = unless desk number (misplacedAt (desk .stage) said) (servedTurn desk number line said)

@@ -14,16 +14,16 @@ use sheets::print_refusal;
 use vocabulary::header::Header;
 use vocabulary::header::Lot;
 use vocabulary::refusal::Refusal;
-use vocabulary::sample::Sample;
 ghost use mathlib.Core.Path.{_≡_};
 ghost use Prim.Native.Nat.{_≤_};
 ghost use lib.ListN.{length};
 ghost use Rattle.sheets.specs.Buffer.{bufferLength, printAnswer, printInto};
+ghost use Rattle.sheets.specs.declared.Printed.the-variants.{Length};
 ghost use Rattle.records.specs.Tape.{samplesIn};
 ghost use Rattle.reading.specs.Line.{lineOf};
-ghost use Rattle.text.specs.Desk.{Tells, deskAt, emptyDesk, answerOf, refusedTurn, openTurn, answeredTurn, takenText, quarterTurn, sampleTurn};
+ghost use Rattle.text.specs.Desk.{Tells, deskAt, emptyDesk, answerOf, refusedTurn, openTurn, takenText, quarterTurn};
 ghost use Rattle.text.specs.Desk.{samplesTurn, roomAt, endTurn, lineTurn, finishTurn, closedAt};
-ghost use Rattle.text.specs.Serving.{Turned, toldBy, early, late, misplacedAt, begunTurn, servedTurn, placedTurn};
+ghost use Rattle.text.specs.Serving.{Turned, toldBy, early, late, misplacedAt, begunTurn, unaskedOf, askedOf, followedTurn, servedTurn, placedTurn};
 
 // Before the header; while the run is open; after the end or a refusal, when nothing is read any more.
 pub enum Stage {
@@ -96,6 +96,30 @@ fn too_late(said: Line) -> Refusal
     }
 }
 
+fn unasked(run: Run, refusal: Refusal) -> Answer
+    ensures { λ r. ⌜ r ≡ unaskedOf run refusal ⌝ }
+{
+    Answer {
+        run: run,
+        refusal: refusal,
+    }
+}
+
+// What the run answers to a line that comes in its place. A header, the end and a malformed line ask nothing of it here.
+fn asked(run: Run, said: Line, line: &[u8]) -> Answer
+    ensures { λ r. ⌜ r ≡ askedOf run (now (line .entry)) said ⌝ }
+{
+    match said {
+        Line::Header(_) => unasked(run, Refusal::None),
+        Line::Bounds(bounds) => run.bounds(bounds),
+        Line::Setpoint(setpoint) => run.setpoint(setpoint),
+        Line::Contract(contract) => run.contract(contract, identifier(line)),
+        Line::Sample(sample) => run.sample(sample),
+        Line::End => unasked(run, Refusal::None),
+        Line::Malformed => unasked(run, Refusal::BadLine),
+    }
+}
+
 // What is wrong with a line before the run is asked.
 fn misplaced(stage: Stage, said: Line) -> Refusal
     ensures { λ r. ⌜ r ≡ misplacedAt stage said ⌝ }
@@ -142,6 +166,16 @@ impl Desk {
         }
     }
 
+    // Nothing is printed.
+    fn silent(self) -> Told
+        ensures { λ r. ⌜ r ≡ toldBy self (Length 0) ⌝ }
+    {
+        Told {
+            desk: self,
+            printed: Printed::Length(0),
+        }
+    }
+
     // A refusal: its line is printed, and the desk is closed.
     fn refused(self, number: u64, refusal: Refusal, out: &mut [u8]) -> Told
         ensures { λ r. ⌜ Turned (now (out .entry)) (refusedTurn self number refusal) r (now (out .exit)) ⌝ }
@@ -171,17 +205,6 @@ impl Desk {
         Desk::begun(opened.run, out)
     }
 
-    // What a call answered for which nothing is printed.
-    fn answered(self, number: u64, answer: Answer, out: &mut [u8]) -> Told
-        ensures { λ r. ⌜ Turned (now (out .entry)) (answeredTurn self number answer) r (now (out .exit)) ⌝ }
-    {
-        let refusal = answer.refusal;
-        if refusal.number() != 0 {
-            return self.refused(number, refusal, out);
-        }
-        Desk::told(answer.run, Stage::Open, Printed::Length(0))
-    }
-
     // After samples: the quarter hour is taken once no room is left in it. A run that waits for none is left as it is.
     fn quarter(run: Run, out: &mut [u8]) -> Told
         ensures { λ r. ⌜ Turned (now (out .entry)) (quarterTurn run) r (now (out .exit)) ⌝ }
@@ -196,17 +219,6 @@ impl Desk {
         }
         let printed = print_taken(taken, out);
         Desk::told(taken.run, Stage::Open, printed)
-    }
-
-    fn sample(self, number: u64, sample: Sample, out: &mut [u8]) -> Told
-        ensures { λ r. ⌜ Turned (now (out .entry)) (sampleTurn self number sample) r (now (out .exit)) ⌝ }
-    {
-        let answer = self.run.sample(sample);
-        let refusal = answer.refusal;
-        if refusal.number() != 0 {
-            return self.refused(number, refusal, out);
-        }
-        Desk::quarter(answer.run, out)
     }
 
     // Several samples, for a reader that has them: in range, and no more than there is room for.
@@ -242,23 +254,36 @@ impl Desk {
         Desk::told(ended.run, Stage::Closed, printed)
     }
 
-    // What the run is asked, where the line comes in its place.
-    fn served(self, number: u64, said: Line, line: &[u8], out: &mut [u8]) -> Told
-        ensures { λ r. ⌜ Turned (now (out .entry)) (servedTurn self number (now (line .entry)) said) r (now (out .exit)) ⌝ }
+    // What there is to do and to print once the run has accepted a line.
+    fn followed(self, number: u64, said: Line, out: &mut [u8]) -> Told
+        ensures { λ r. ⌜ Turned (now (out .entry)) (followedTurn self number said) r (now (out .exit)) ⌝ }
     {
         match said {
             Line::Header(header) => self.open(number, header, out),
-            Line::Bounds(bounds) => self.answered(number, self.run.bounds(bounds), out),
-            Line::Setpoint(setpoint) => self.answered(number, self.run.setpoint(setpoint), out),
-            Line::Contract(contract) => self.answered(
-                number,
-                self.run.contract(contract, identifier(line)),
-                out,
-            ),
-            Line::Sample(sample) => self.sample(number, sample, out),
+            Line::Bounds(_) => self.silent(),
+            Line::Setpoint(_) => self.silent(),
+            Line::Contract(_) => self.silent(),
+            Line::Sample(_) => Desk::quarter(self.run, out),
             Line::End => self.end(number, out),
-            Line::Malformed => self.refused(number, Refusal::BadLine, out),
+            Line::Malformed => self.silent(),
         }
+    }
+
+    // A line that comes in its place.
+    fn served(self, number: u64, said: Line, line: &[u8], out: &mut [u8]) -> Told
+        ensures { λ r. ⌜ Turned (now (out .entry)) (servedTurn self number (now (line .entry)) said) r (now (out .exit)) ⌝ }
+    {
+        let answer = asked(self.run, said, line);
+        let refusal = answer.refusal;
+        if refusal.number() != 0 {
+            return self.refused(number, refusal, out);
+        }
+        let run = answer.run;
+        let desk = Desk {
+            run: run,
+            stage: Stage::Open,
+        };
+        desk.followed(number, said, out)
     }
 
     // A line while the desk reads.
@@ -291,10 +316,7 @@ impl Desk {
         ensures { λ r. ⌜ Tells (now (out .entry)) self (lineTurn self number (now (line .entry))) r (now (out .exit)) ⌝ }
     {
         if self.is_closed() {
-            return Told {
-                desk: self,
-                printed: Printed::Length(0),
-            };
+            return self.silent();
         }
         kept(self, self.turn(number, line, out))
     }
@@ -304,10 +326,7 @@ impl Desk {
         ensures { λ r. ⌜ Tells (now (out .entry)) self (finishTurn self count) r (now (out .exit)) ⌝ }
     {
         if self.is_closed() {
-            return Told {
-                desk: self,
-                printed: Printed::Length(0),
-            };
+            return self.silent();
         }
         let number = std::num::wrapping_add_u64(count, 1);
         kept(self, self.refused(number, Refusal::NoEnd, out))

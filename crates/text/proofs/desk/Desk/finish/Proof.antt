@@ -1,6 +1,6 @@
 -- `text::desk::Desk::finish` meets its contract. Assumes nothing.
 use Rattle.text.proofs.Telling.{silent, tells, as-turn, finish-closed, finish-open}
-use mathlib.Core.Path.{refl, sym, _∙_}
+use mathlib.Core.Path.{sym, _∙_}
 use borrow.Author.Needs.{needs}
 use Rattle.text.proofs.desk.Desk.finish.Statement.{statement}
 use Rattle.text.proofs.desk.Desk.finish.Tie as tie
@@ -8,8 +8,11 @@ use Rattle.text.proofs.desk.Desk.finish.Tie as tie
 is-closed-requires : tie.Need-is-closed-requires
 is-closed-requires c κs = search needs
 
+silent-requires : tie.Need-silent-requires
+silent-requires c κs = search needs
+
 returns : tie.Need-returns
-returns c = as-turn (sym (finish-closed _ (sym (c .before .is-closed .ensures) ∙ c .if1 .taken) _)) (tells (silent _ _) refl)
+returns c = as-turn (sym (finish-closed _ (sym (c .before .before .is-closed .ensures) ∙ c .before .if1 .taken) _)) (tells (silent _ _) (c .silent .ensures))
 
 wrapping-add-u64-requires : tie.Need-wrapping-add-u64-requires
 wrapping-add-u64-requires c κs = search needs
@@ -29,4 +32,4 @@ returns-2 c =
     (rw (← c .before .before .before .before .before .wrapping-add-u64 .ensures) (tells (c .before .before .before .refused .ensures) (c .kept .ensures)))
 
 pub finish-spec : {M : Type 1} → statement M
-finish-spec = tie.close (tie.spec is-closed-requires returns wrapping-add-u64-requires refused-requires kept-requires same-length returns-2)
+finish-spec = tie.close (tie.spec is-closed-requires silent-requires returns wrapping-add-u64-requires refused-requires kept-requires same-length returns-2)

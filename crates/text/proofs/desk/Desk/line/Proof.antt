@@ -1,6 +1,6 @@
 -- `text::desk::Desk::line` meets its contract. Assumes nothing.
 use Rattle.text.proofs.Telling.{silent, tells, as-turn, line-closed, line-placed}
-use mathlib.Core.Path.{refl, sym, _∙_}
+use mathlib.Core.Path.{sym, _∙_}
 use borrow.Author.Needs.{needs}
 use Rattle.text.proofs.desk.Desk.line.Statement.{statement}
 use Rattle.text.proofs.desk.Desk.line.Tie as tie
@@ -8,8 +8,11 @@ use Rattle.text.proofs.desk.Desk.line.Tie as tie
 is-closed-requires : tie.Need-is-closed-requires
 is-closed-requires c κs = search needs
 
+silent-requires : tie.Need-silent-requires
+silent-requires c κs = search needs
+
 returns : tie.Need-returns
-returns c = as-turn (sym (line-closed _ (sym (c .before .is-closed .ensures) ∙ c .if1 .taken) _ _)) (tells (silent _ _) refl)
+returns c = as-turn (sym (line-closed _ (sym (c .before .before .is-closed .ensures) ∙ c .before .if1 .taken) _ _)) (tells (silent _ _) (c .silent .ensures))
 
 turn-requires : tie.Need-turn-requires
 turn-requires c κs = search needs
@@ -26,4 +29,4 @@ returns-2 c =
     as-turn (line-placed _ _ _ (sym (at-if1 .before .is-closed .ensures) ∙ at-if1 .if1 .left)) (tells (c .before .before .before .turn .ensures) (c .kept .ensures))
 
 pub line-spec : {M : Type 1} → statement M
-line-spec = tie.close (tie.spec is-closed-requires returns turn-requires kept-requires same-length returns-2)
+line-spec = tie.close (tie.spec is-closed-requires silent-requires returns turn-requires kept-requires same-length returns-2)
