@@ -1,6 +1,6 @@
 -- How a call's answer and bytes tell a turn.
 use Prim.Native.Nat.{ℕ, _+_, _%_, _^_, _≤_, _<_}
-use mathlib.Core.Path.{_≡_, refl, ap, subst, _∙_}
+use mathlib.Core.Path.{_≡_, refl, ap, sym, subst, _∙_}
 use mathlib.Core.Bool.{true, false, cond}
 use mathlib.Core.List.{List}
 use native.Mathlib.Omega.{arith}
@@ -12,6 +12,7 @@ use Rattle.vocabulary.specs.declared.refusal.Refusal.the-variants.{NoEnd}
 use Rattle.vocabulary.specs.Refusals.{numberOf, accepted}
 use Rattle.sheets.specs.Buffer.{bufferLength, printAnswer, printInto}
 use Rattle.sheets.specs.declared.Printed.{Printed}
+use Rattle.sheets.proofs.Printing.{room-enough}
 use Rattle.sheets.specs.declared.Printed.the-variants.{Length}
 use Rattle.lines.specs.Turns.{quiet}
 use Rattle.reading.specs.Line.{lineOf}
@@ -41,6 +42,12 @@ silent out after = record { told = rw (leb·zero (length out)); bytes = rw (leb�
 pub tells : {out out′ : List ℕ} {before : Desk} {turn : Turn} {t r : Told} → Turned out turn t out′ → r ≡ answerOf before (t .desk) (t .printed) → Tells out before turn r out′
 tells {before = before} u a =
     record { prints = record { answer = a ∙ ap (λ (t : Told). answerOf before (t .desk) (t .printed)) (u .told); bytes = u .bytes }; room = u .room }
+
+-- nothing has to be put back where the buffer is long enough for every text
+pub long-enough : {out out′ : List ℕ} (before : Desk) {turn : Turn} {r : Told} → Turned out turn r out′ → bufferLength ≤ length out → Tells out before turn r out′
+long-enough {out} before {turn} u k =
+    let e : printAnswer out (turn .text) ≡ Length (length (turn .text)) = room-enough out (turn .text) bufferLength (u .room) k in
+    record { prints = record { answer = u .told ∙ ap (toldBy (turn .desk)) e ∙ sym (ap (answerOf before (turn .desk)) e); bytes = u .bytes }; room = u .room }
 
 -- another name of the turn
 pub as-turned : {out out′ : List ℕ} {turn turn′ : Turn} {r : Told} → turn ≡ turn′ → Turned out turn r out′ → Turned out turn′ r out′

@@ -6,6 +6,7 @@ use reading::read;
 use settlement::run::Answer;
 use settlement::run::Run;
 use settlement::run::Taken;
+use sheets::BUFFER;
 use sheets::Printed;
 use sheets::print_closing;
 use sheets::print_head;
@@ -221,12 +222,16 @@ impl Desk {
         Desk::told(taken.run, Stage::Open, printed)
     }
 
-    // Several samples, for a reader that has them: in range, and no more than there is room for.
+    // Several samples, for a reader that has them: in range, and no more than there is room for. A long buffer is never too short, so that nothing
+    // is kept beside it to be put back.
     pub fn samples(self, setpoints: &[i32], actuals: &[i32], out: &mut [u8]) -> Told
         ensures { λ r. ⌜ Tells (now (out .entry)) self (samplesTurn self (samplesIn (now (setpoints .entry)) (now (actuals .entry)))) r (now (out .exit)) ⌝ }
     {
         let answer = self.run.samples(setpoints, actuals);
-        kept(self, Desk::quarter(answer.run, out))
+        if out.len() < BUFFER {
+            return kept(self, Desk::quarter(answer.run, out));
+        }
+        Desk::quarter(answer.run, out)
     }
 
     // How many samples more are taken before a quarter hour is full; none where no run is open.
