@@ -6,13 +6,13 @@ use mathlib.Core.Bool.{Bool, true, false, cond}
 use mathlib.Core.List.{List, [], _++_, append-assoc, append-nil}
 use native.Mathlib.Omega.{arith}
 use native.Mathlib.Nat.{add-zero}
-use borrow.Author.Tests.{le-ltb, lt-ltb}
+use borrow.Author.Tests.{le-ltb, lt-ltb, eqb-true}
 use lib.ListN.{length, take, drop, length-drop, length-append, drop-of-length-le}
 use lib.Seq.{drop-drop}
 use Rattle.fields.proofs.DigitLaws.{to-end}
-use Rattle.lines.specs.Feed.{Outcome, stay, lineAt}
+use Rattle.lines.specs.Feed.{Start, Outcome, stay, lineAt}
 use Rattle.lines.specs.Within.{andThen, rests}
-use Rattle.lines.specs.Gathering.{freshOf, gatheredOf}
+use Rattle.lines.specs.Gathering.{Starts, freshOf, gatheredOf}
 use Rattle.lines.specs.Handing.{heldBy}
 use Rattle.lines.specs.declared.Gatherer.{Gatherer}
 use Rattle.lines.specs.declared.Gathered.{Gathered}
@@ -23,7 +23,7 @@ use Rattle.print.proofs.Writing.{wrote-nothing, join, at-start, measured, wrote
 use Rattle.sheets.specs.declared.Printed.{Printed}
 use Rattle.sheets.specs.declared.Printed.the-variants.{Length, TooShort}
 use Rattle.mending.specs.Mender.{Turn, Turns, lineRoom, lineTurn, finishTurn}
-use Rattle.mending.specs.Reader.{closedOf, feedOf, finishOf, readerOf, over, lengthOf, Yields, Moves, Reads}
+use Rattle.mending.specs.Reader.{closedOf, feedOf, finishOf, readerOf, over, lengthOf, Yields, Moves, So, Steps, Reads}
 use Rattle.mending.specs.declared.mender.Mender.{Mender}
 use Rattle.mending.specs.declared.mender.Told.{Told}
 use Rattle.mending.specs.declared.reader.Reader.{Reader}
@@ -115,23 +115,16 @@ module _ (reader : Reader) (block : List ℕ) (at : ℕ) (out : List ℕ) (from 
 
 -- ---- ALL STEPS: what was read so far came to a reader at place i, and its text stands in the buffer up to place `next`
 
-pub record So (start : Reader) (block out₀ : List ℕ) (reader : Reader) (i next : ℕ) (out : List ℕ) : Type 0 where
-  pub text : List ℕ
-  pub fits : length text ≤ length out₀
-  pub next-is : next ≡ length text
-  pub wrote : Wrote out₀ 0 text next out
-  pub is : feedOf (length out₀) start block ≡ andThen text i (feedOf (length out₀ - length text) reader (drop i block))
-
-pub so-first : (start : Reader) (block : List ℕ) {out : List ℕ} → length out ≤ last → So start block out start 0 0 out
-so-first start block {out} few =
+pub so-none : (reader : Reader) (block : List ℕ) (at : ℕ) {out : List ℕ} {from : ℕ} → from ≤ length out → length out ≤ last → So reader block at out from reader at from out
+so-none reader block at {out} {from} h few =
     record {
       text = [];
+      used = 0;
+      place = omega arith;
+      next-is = omega arith;
       fits = omega arith;
-      next-is = refl;
       wrote = wrote-nothing (omega arith) few;
-      is =
-          (let o = feedOf (length out) start block in λ i. record { gatherer = o .gatherer; desk = o .desk; used = none o i; text = o .text })
-          ∙ (let e : length out ≡ length out - 0 = omega arith in ap (λ (n : ℕ). andThen [] 0 (feedOf n start block)) e);
+      is = (let o = feedOf (length out - from) reader (drop at block) in λ i. record { gatherer = o .gatherer; desk = o .desk; used = none o i; text = o .text });
     }
   where
     none : (o : Outcome Mender) → o .used ≡ 0 + o .used
@@ -144,50 +137,80 @@ then-then a b m n o = λ i. record { gatherer = o .gatherer; desk = o .desk; use
     sums : m + (n + o .used) ≡ m + n + o .used
     sums = omega arith
 
-module _ {start : Reader} {block out₀ : List ℕ} {reader : Reader} {i next : ℕ} {out : List ℕ} (so : So start block out₀ reader i next out) where
-  same-length : length out ≡ length out₀
-  same-length = wrote-length (so .wrote)
+-- steps after steps
+pub so-then : {block : List ℕ} {a b c : Reader} {at i i′ from next next′ : ℕ} {out out′ out″ : List ℕ} → So a block at out from b i next out′ → So b block i out′ next c i′ next′ out″
+    → So a block at out from c i′ next′ out″
+so-then {block} {a} {b} {c} {at} {i} {i′} {from} {next} {next′} {out} {out′} {out″} f g =
+    let same : length out′ ≡ length out = wrote-length (f .wrote) in
+    let long : length (f .text ++ g .text) ≡ length (f .text) + length (g .text) = length-append (f .text) (g .text) in
+    record {
+      text = f .text ++ g .text;
+      used = f .used + g .used;
+      place = omega (arith, f .place, g .place);
+      next-is = omega (arith, f .next-is, g .next-is, long);
+      fits = omega (arith, f .next-is, g .fits, long, same);
+      wrote = join (f .wrote) (g .wrote);
+      is =
+          f .is
+          ∙ ap (λ (n : ℕ). andThen (f .text) (f .used) (feedOf (n - next) b (drop i block))) (sym same)
+          ∙ ap (andThen (f .text) (f .used)) (g .is)
+          ∙ then-then (f .text) (g .text) (f .used) (g .used) _
+          ∙ ap (λ (n : ℕ). andThen (f .text ++ g .text) (f .used + g .used) (feedOf (n - next′) c (drop i′ block))) same;
+    }
 
-  -- one step more
-  pub so-more : {r : Moved} {out′ : List ℕ} → closedOf (reader .mender) ≡ false → lineRoom ≤ length out - next → Moves reader block i out next r out′
-      → So start block out₀ (r .reader) (i + r .used) (r .next) out′
-  so-more {r} {out′} o room m =
-      let here : next ≡ length (so .text) = so .next-is in
-      let long : length (so .text ++ m .text) ≡ length (so .text) + length (m .text) = length-append (so .text) (m .text) in
-      let enough : lineRoom ≤ length out₀ - length (so .text) = omega (arith, same-length, here, room) in
-      let reads : rests lineTurn closedOf lineRoom (reader .mender) (length out₀ - length (so .text)) ≡ false = rw (o, le-ltb _ _ enough) in
-      let short : length (m .text) ≤ lineRoom = m .short in
-      let far : length out₀ ≤ last = so .wrote .reach in
-      let place : r .next ≡ next + length (m .text) = omega (arith, m .wrote .next, far, enough, short, here) in
-      record {
-        text = so .text ++ m .text;
-        fits = omega (arith, long, enough, short, so .fits);
-        next-is = omega (arith, place, here, long);
-        wrote = join (so .wrote) (m .wrote);
-        is =
-            so .is
-            ∙ ap (andThen (so .text) i) (m .is (length out₀ - length (so .text)) reads)
-            ∙ then-then (so .text) (m .text) i (r .used) _
-            ∙ (let e : length out₀ - length (so .text) - length (m .text) ≡ length out₀ - length (so .text ++ m .text) = omega (arith, long) in
-            ap (λ (n : ℕ). andThen (so .text ++ m .text) (i + r .used) (feedOf n (r .reader) (drop (i + r .used) block))) e);
-      }
+-- a line, or the rest of the block
+pub so-step : {reader : Reader} {block : List ℕ} {at : ℕ} {out : List ℕ} {from : ℕ} {r : Moved} {out′ : List ℕ} → closedOf (reader .mender) ≡ false → lineRoom ≤ length out - from
+    → Moves reader block at out from r out′ → So reader block at out from (r .reader) (at + r .used) (r .next) out′
+so-step {reader} {block} {at} {out} {from} {r} {out′} o enough m =
+    let reads : rests lineTurn closedOf lineRoom (reader .mender) (length out - from) ≡ false = rw (o, le-ltb _ _ enough) in
+    let short : length (m .text) ≤ lineRoom = m .short in
+    let far : length out ≤ last = m .wrote .reach in
+    let place : r .next ≡ from + length (m .text) = omega (arith, m .wrote .next, far, enough, short) in
+    record {
+      text = m .text;
+      used = r .used;
+      place = omega arith;
+      next-is = place;
+      fits = omega (arith, enough, short);
+      wrote = m .wrote;
+      is =
+          m .is (length out - from) reads
+          ∙ (let e : length out - from - length (m .text) ≡ length out - r .next = omega (arith, place) in
+          ap (λ (n : ℕ). andThen (m .text) (r .used) (feedOf n (r .reader) (drop (at + r .used) block))) e);
+    }
 
+pub line-steps : {reader : Reader} {block : List ℕ} {at : ℕ} {out : List ℕ} {from : ℕ} {r : Moved} {out′ : List ℕ} → closedOf (reader .mender) ≡ false → lineRoom ≤ length out - from
+    → Moves reader block at out from r out′ → Steps reader block at out from r out′
+line-steps o enough m = record { within = m .within; some = m .some; so = so-step o enough m }
+
+-- after a try that changed nothing
+pub line-steps-then : {reader : Reader} {block : List ℕ} {at : ℕ} {out : List ℕ} {from : ℕ} {r : Moved} {out′ out″ : List ℕ} → closedOf (reader .mender) ≡ false → lineRoom ≤ length out - from
+    → out′ ≡ out → Moves reader block at out′ from r out″ → Steps reader block at out from r out″
+line-steps-then {reader} {block} {at} {out} {from} {r} {out′} {out″} o enough same m = line-steps o enough (subst (λ (l : List ℕ). Moves reader block at l from r out″) same m)
+
+-- where a line starts
+pub start-of : {g : Gatherer} {r : Bool} → Starts g r → r ≡ true → Start g
+start-of {g} s e = record { room = s .room; nothing = eqb-true (g .length) 0 (sym (s .is) ∙ e) }
+
+module _ {start : Reader} {block out₀ : List ℕ} {reader : Reader} {i next : ℕ} {out : List ℕ} (so : So start block 0 out₀ 0 reader i next out) where
   -- no step more
-  pub so-ends : feedOf (length out₀ - length (so .text)) reader (drop i block) ≡ stay (reader .gatherer) (reader .mender)
+  pub so-ends : feedOf (length out₀ - next) reader (drop i block) ≡ stay (reader .gatherer) (reader .mender)
       → Reads start block out₀ (record { reader = reader; used = i; next = next }) out
   so-ends e =
       let q : feedOf (length out₀) start block ≡ record { gatherer = reader .gatherer; desk = reader .mender; used = i; text = so .text } =
-      so .is
-      ∙ ap (andThen (so .text) i) e
-      ∙ ap (λ (n : ℕ). record { gatherer = reader .gatherer; desk = reader .mender; used = n; text = so .text ++ [] }) (add-zero i)
+      (let z : length out₀ ≡ length out₀ - 0 = omega arith in ap (λ (n : ℕ). feedOf n start block) z)
+      ∙ so .is
+      ∙ ap (andThen (so .text) (so .used)) e
+      ∙ (let z : so .used + 0 ≡ i = omega (arith, so .place) in ap (λ (n : ℕ). record { gatherer = reader .gatherer; desk = reader .mender; used = n; text = so .text ++ [] }) z)
       ∙ ap (λ (l : List ℕ). record { gatherer = reader .gatherer; desk = reader .mender; used = i; text = l }) (append-nil (so .text)) in
       let t : feedOf (length out₀) start block .text ≡ so .text = ap (λ (o : Outcome Mender). o .text) q in
+      let here : next ≡ length (so .text) = omega (arith, so .next-is) in
       record {
         reader-is = sym (ap readerOf q);
         used = sym (ap (λ (o : Outcome Mender). o .used) q);
-        next = so .next-is ∙ ap length (sym t);
-        bytes = at-start (so .wrote) (so .fits) ∙ ap (λ (l : List ℕ). over l out₀) (sym t);
-        room = omega (arith, so .next-is, so .fits);
+        next = here ∙ ap length (sym t);
+        bytes = at-start (so .wrote) (omega (arith, so .fits)) ∙ ap (λ (l : List ℕ). over l out₀) (sym t);
+        room = omega (arith, here, so .fits);
       }
 
   pub so-closed : closedOf (reader .mender) ≡ true → Reads start block out₀ (record { reader = reader; used = i; next = next }) out
@@ -195,7 +218,7 @@ module _ {start : Reader} {block out₀ : List ℕ} {reader : Reader} {i next : 
 
   pub so-full : closedOf (reader .mender) ≡ false → length out - next < lineRoom → Reads start block out₀ (record { reader = reader; used = i; next = next }) out
   so-full c few =
-      let low : length out₀ - length (so .text) < lineRoom = omega (arith, few, same-length, so .next-is) in
+      let low : length out₀ - next < lineRoom = omega (arith, few, wrote-length (so .wrote)) in
       so-ends (rests-there lineTurn closedOf lineRoom _ (reader .gatherer) (reader .mender) (drop i block) (rw (c, lt-ltb _ _ low)))
 
   pub so-done : length block ≤ i → Reads start block out₀ (record { reader = reader; used = i; next = next }) out

@@ -163,6 +163,11 @@ closedAt Empty = false
 closedAt Open = false
 closedAt Closed = true
 
+abbrev pub openAt : Stage → Bool
+openAt Empty = false
+openAt Open = true
+openAt Closed = false
+
 -- no line's text is longer
 abbrev pub lineRoom : ℕ
 lineRoom = 4184

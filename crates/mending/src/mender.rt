@@ -30,7 +30,7 @@ ghost use Rattle.mending.specs.declared.mender.Stage.the-variants.{Close
 ghost use Rattle.mending.specs.declared.mender.Sorted.the-variants.{Good};
 ghost use Rattle.mending.specs.Mending.{itemsText};
 ghost use Rattle.mending.specs.Mender.{Turns, emptyMender, openedBy, sortedAt, holeRefusal, sortedRefusal, rowRefusal, endRefusal, rowItems, restItems};
-ghost use Rattle.mending.specs.Mender.{earlierThan, droppedAt, takenAt, withRow, refusedTurn, openTurn, sortedTurn, rowTurn, endTurn, firstTurn, nextTurn, lineTurn, finishTurn, atStage, closedAt};
+ghost use Rattle.mending.specs.Mender.{earlierThan, droppedAt, takenAt, withRow, refusedTurn, openTurn, sortedTurn, rowTurn, endTurn, firstTurn, nextTurn, lineTurn, finishTurn, atStage, openAt, closedAt};
 
 // Before the header; while lines are taken; after the end or a refusal, when nothing is read any more.
 pub enum Stage {
@@ -114,6 +114,18 @@ impl Mender {
             Stage::Empty => false,
             Stage::Open => false,
             Stage::Closed => true,
+        }
+    }
+
+    // Whether lines are taken.
+    pub(crate) fn is_open(self) -> bool
+        ensures { λ r. ⌜ r ≡ openAt (self .stage) ⌝ }
+    {
+        let stage = self.stage;
+        match stage {
+            Stage::Empty => false,
+            Stage::Open => true,
+            Stage::Closed => false,
         }
     }
 
@@ -338,7 +350,7 @@ impl Mender {
         }
     }
 
-    fn row(self, number: u64, row: Recorded, out: &mut [u8], at: usize) -> Told
+    pub(crate) fn row(self, number: u64, row: Recorded, out: &mut [u8], at: usize) -> Told
         ensures { λ r. ⌜ Turns (now (out .entry)) at (rowTurn self number row) r (now (out .exit)) ⌝ }
     {
         let sorted = self.sorted(row.second);

@@ -2,8 +2,13 @@ pub mod Places
 pub mod DigitScan
 pub mod UnsignedForm
 pub mod PowerForm
+pub mod Joined
+pub mod PairScan
 pub mod LineForm
 pub mod LineScan
+pub mod RecordedForm
+pub mod RecordedScan
+pub mod RecordedMeaning
 pub mod StretchLaws
 pub mod CutLaws
 pub mod BlockLaws

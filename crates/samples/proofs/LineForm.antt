@@ -1,27 +1,25 @@
 -- A sample line in range by its bytes, and by what the line says.
-use Prim.Native.Nat.{ℕ, suc, _+_, _*_, _-_, _≤_, _<_}
+use Prim.Native.Nat.{ℕ, _+_, _-_, _≤_}
 use mathlib.Core.Path.{_≡_, refl, sym, ap, _∙_}
 use mathlib.Core.Bool.{Bool, true, false, cond, _&&_}
-use mathlib.Core.List.{List, [], _∷_, _++_, append-assoc, append-nil}
+use mathlib.Core.List.{List, [], _∷_, _++_}
 use native.Mathlib.Omega.{arith}
-use native.Mathlib.Decide.{ℕ-discrete}
-use borrow.Author.Tests.{le-ltb, ne-eqb, eqb-true}
+use borrow.Author.Tests.{le-ltb}
 use lib.ListN.{length, drop, length-append}
 use lib.Dec.{eqb, ltb}
 use lib.IntN.{ℤ}
 use Rattle.vocabulary.specs.declared.sample.Sample.{Sample}
 use Rattle.fields.specs.Fields.{fields, fieldAt}
-use Rattle.fields.proofs.FieldLaws.{fields-tab, fields-other, fields-none, numbered, counted}
-use Rattle.fields.specs.Numbers.{valueFrom, unsignedOf, longNumberOf, numberOf}
-use Rattle.fields.specs.declared.number.Digits.the-variants as F
+use Rattle.fields.proofs.FieldLaws.{counted}
+use Rattle.fields.specs.Numbers.{longNumberOf, numberOf}
 use Rattle.fields.specs.declared.number.LongNumber.{LongNumber}
 use Rattle.fields.specs.declared.number.LongNumber.the-variants as Long
 use Rattle.fields.specs.declared.number.Number.{Number}
 use Rattle.fields.specs.declared.number.Number.the-variants as N
 use Rattle.fields.specs.declared.day.Day.{Day}
 use Rattle.fields.specs.declared.day.Day.the-variants as D
-use Rattle.lines.specs.Lines.{onFirst, linesOf}
-use Rattle.lines.proofs.LineLaws.{NoLf, none, another, Written, last, ended, read-back, written}
+use Rattle.lines.specs.Lines.{linesOf}
+use Rattle.lines.proofs.LineLaws.{written}
 use Rattle.fields.specs.Day.{dayOf}
 use Rattle.reading.specs.Line.{isLetter, kindOf, directionOf, lotOf, byKind, lineOf}
 use Rattle.reading.specs.Line.{headerFields, boundsFields, setpointFields, contractFields, sampleFields}
@@ -39,9 +37,7 @@ use Rattle.samples.specs.Scan.{rowOf, firstOf}
 use Rattle.samples.specs.declared.Row.{Row}
 use Rattle.samples.specs.declared.First.{First}
 use Rattle.samples.specs.declared.First.the-variants as R
-use Rattle.samples.proofs.DigitScan.{is-digit, digit-of, after-digit}
-use Rattle.samples.proofs.UnsignedForm.{plain-of, short}
-use Rattle.samples.proofs.PowerForm.{number-plain, number-minus, no-number, above, below, range-pos, range-neg}
+use Rattle.samples.proofs.Joined.{Shorts, no-field, a-field, short-number, a-letter, joined-fields, joined-few, joined-first, one-line, line-of, by-first, by-second, leads, letter}
 
 -- S, a tab, a power, a tab, a power and an LF at a place
 pub record Shape (s : List ℕ) (at : ℕ) (row : Row) : Type 0 where
@@ -55,90 +51,17 @@ pub record Shape (s : List ℕ) (at : ℕ) (row : Row) : Type 0 where
   pub actual-ranged : powerInRange (row .actual) ≡ true
   pub place : row .to ≡ at + 2 + length a + 1 + length b + 1
 
--- a number has neither tabs nor LFs
-data Solid : List ℕ → Type 0 where
-  empty : Solid []
-  more : {x : ℕ} {xs : List ℕ} → 10 < x → Solid xs → Solid (x ∷ xs)
-
-solid-digits : (bytes : List ℕ) (v w : ℕ) → valueFrom v bytes ≡ F.Value w → Solid bytes
-solid-digits [] v w e = empty
-solid-digits (x ∷ xs) v w e =
-    let d = is-digit x (digit-of v x w xs e) in
-    let g : 10 < x = omega arith in
-    more g (solid-digits xs (v * 10 + (x - 48)) w (after-digit v x w xs e))
-
--- and few bytes, if it is a power
-record Short (bytes : List ℕ) : Type 0 where
-  solid : Solid bytes
-  few : length bytes ≤ 8
-
-short-unsigned : (bytes : List ℕ) (n : ℕ) → unsignedOf 9 bytes ≡ F.Value n → n ≤ 2000000 → Solid bytes × (length bytes ≤ 7)
-short-unsigned bytes n e h = let p = plain-of bytes n e in (solid-digits bytes 0 n (p .says), short bytes n p h)
-
-short-number : (bytes : List ℕ) (z : ℤ) → numberOf bytes ≡ N.Value z → powerInRange z ≡ true → Short bytes
-short-number [] z e r = absurd (no-number z e)
-short-number (x ∷ xs) z e r =
-    elim (ℕ-discrete x 45) [
-      | yes q ↦
-          let m = below (unsignedOf 9 xs) z (sym (number-minus x xs q) ∙ e) in
-          let l = range-neg (m .n) (sym (ap powerInRange (m .is)) ∙ r) in
-          let p = short-unsigned xs (suc (m .n)) (m .says) (omega arith) in
-          let g : 10 < x = omega arith in
-          record { solid = more g (p .0); few = omega (arith, p .1) }
-      | no q ↦
-          let m = above (unsignedOf 9 (x ∷ xs)) z (sym (number-plain x xs q) ∙ e) in
-          let p = short-unsigned (x ∷ xs) (m .n) (m .says) (range-pos (m .n) (sym (ap powerInRange (m .is)) ∙ r)) in
-          record { solid = p .0; few = omega (arith, p .1) }
-    ]
-
--- fields with no tab in them
-field-before : {a : List ℕ} (l : List ℕ) → Solid a → fields (a ++ (9 ∷ l)) ≡ a ∷ fields l
-field-before l empty = fields-tab 9 l refl
-field-before l (more {x} {xs} h s) = fields-other x (xs ++ (9 ∷ l)) (λ e. omega arith) ∙ ap (onFirst x) (field-before l s)
-
-field-last : {b : List ℕ} → Solid b → fields b ≡ b ∷ []
-field-last empty = fields-none
-field-last (more {x} {xs} h s) = fields-other x xs (λ e. omega arith) ∙ ap (onFirst x) (field-last s)
-
--- lines with no LF in them
-not-lf : {x : ℕ} → 10 < x → x ≡ 10 → ⊥
-not-lf h e = omega arith
-
-letter-lf : _≡_ {A = ℕ} 83 10 → ⊥
-letter-lf e = omega arith
-
-tab-lf : _≡_ {A = ℕ} 9 10 → ⊥
-tab-lf e = omega arith
-
-no-lf : {a b : List ℕ} → Solid a → NoLf b → NoLf (a ++ b)
-no-lf empty n = n
-no-lf (more h s) n = another (not-lf h) (no-lf s n)
-
-solid-lf : {b : List ℕ} → Solid b → NoLf b
-solid-lf empty = none
-solid-lf (more h s) = another (not-lf h) (solid-lf s)
-
 -- what the line says
 module _ (a b : List ℕ) (x y : ℤ) (p : numberOf a ≡ N.Value x) (q : numberOf b ≡ N.Value y) (u : powerInRange x ≡ true) (v : powerInRange y ≡ true) where
-  three : fields (83 ∷ (9 ∷ (a ++ (9 ∷ b)))) ≡ (83 ∷ []) ∷ (a ∷ (b ∷ []))
-  three =
-      fields-other 83 (9 ∷ (a ++ (9 ∷ b))) (λ e. omega arith)
-      ∙ ap (onFirst 83)
-      (fields-tab 9 (a ++ (9 ∷ b)) refl
-      ∙ ap (λ (fs : List (List ℕ)). [] ∷ fs)
-      (field-before b (short-number a x p u .solid) ∙ ap (λ (fs : List (List ℕ)). a ∷ fs) (field-last (short-number b y q v .solid))))
-
   pub sample-line : lineOf (83 ∷ (9 ∷ (a ++ (9 ∷ b)))) ≡ L.Sample (record { setpoint = x; actual = y })
   unfolding lineOf fieldAt kindOf isLetter sampleOf
   sample-line =
-      let few : length (83 ∷ (9 ∷ (a ++ (9 ∷ b)))) ≤ 80 = (let k = short-number a x p u .few in let l = short-number b y q v .few in omega (arith, length-append a (9 ∷ b))) in
-      rw (le-ltb _ _ few, three, p, q)
+      let powers : Shorts (a ∷ (b ∷ [])) = a-field (short-number a x p u) (a-field (short-number b y q v) no-field) in
+      let few : length (83 ∷ (9 ∷ (a ++ (9 ∷ b)))) ≤ 80 = omega (arith, joined-few (83 ∷ []) powers) in
+      rw (le-ltb _ _ few, joined-fields (a-letter 83 (omega arith)) powers, p, q)
 
 -- the line ends where its LF stands
 module _ (a b rest : List ℕ) where
-  one-line : 83 ∷ (9 ∷ (a ++ (9 ∷ (b ++ (10 ∷ rest))))) ≡ (83 ∷ (9 ∷ (a ++ (9 ∷ b)))) ++ (10 ∷ rest)
-  one-line = ap (λ (l : List ℕ). 83 ∷ (9 ∷ l)) (sym (append-assoc a (9 ∷ b) (10 ∷ rest)))
-
   line-length : length (83 ∷ (9 ∷ (a ++ (9 ∷ b)))) ≡ 3 + length a + length b
   line-length = omega (arith, length-append a (9 ∷ b))
 
@@ -150,8 +73,7 @@ module _ {s : List ℕ} {at : ℕ} {row : Row} (h : Shape s at row) where
   shape-lines =
       let sa = short-number (h .a) (row .setpoint) (h .setpoint) (h .setpoint-ranged) in
       let sb = short-number (h .b) (row .actual) (h .actual) (h .actual-ranged) in
-      let n : NoLf (lineIn (h .a) (h .b)) = another letter-lf (another tab-lf (no-lf (sa .solid) (another tab-lf (solid-lf (sb .solid))))) in
-      ap linesOf (h .form ∙ one-line (h .a) (h .b) (h .rest)) ∙ read-back (ended n (written (h .rest)))
+      ap linesOf (h .form ∙ one-line (83 ∷ []) (h .a ∷ (h .b ∷ [])) (10 ∷ h .rest)) ∙ joined-first (a-letter 83 (omega arith)) (a-field sa (a-field sb no-field)) (h .rest)
 
   pub shape-says : lineOf (lineIn (h .a) (h .b)) ≡ L.Sample (record { setpoint = row .setpoint; actual = row .actual })
   shape-says = sample-line (h .a) (h .b) (row .setpoint) (row .actual) (h .setpoint) (h .actual) (h .setpoint-ranged) (h .actual-ranged)
@@ -164,59 +86,20 @@ module _ {s : List ℕ} {at : ℕ} {row : Row} (h : Shape s at row) where
   shape-first = rw (shape-lines, shape-says, h .setpoint-ranged, h .actual-ranged, shape-place)
 
 -- and the other way round: a line that says a sample in range has that shape
-record LineFirst (line : List ℕ) (lines : List (List ℕ)) (t : List ℕ) : Type 0 where
-  rest : List ℕ
-  form : t ≡ line ++ (10 ∷ rest)
-
-line-first : {ls : List (List ℕ)} {t : List ℕ} → Written ls t → (line : List ℕ) (lines : List (List ℕ)) → ls ≡ line ∷ lines → LineFirst line lines t
-line-first (last n) line lines e = absurd (let q : _≡_ {A = ℕ} 0 1 = cc in (omega arith))
-line-first (ended {line = l} {lines = ls} {input} n w) line lines e = let q : l ≡ line = cc in record { rest = input; form = rw q }
-
--- the fields, each after a tab
-abbrev tabbed : List (List ℕ) → List ℕ
-tabbed [] = []
-tabbed (f ∷ fs) = 9 ∷ (f ++ tabbed fs)
-
-parted : (l : List ℕ) → 9 ∷ l ≡ tabbed (fields l)
-parted [] = rw fields-none
-parted (x ∷ xs) =
-    elim (ℕ-discrete x 9) [
-      | yes e ↦ rw (e, fields-tab 9 xs refl) (ap (λ (l : List ℕ). 9 ∷ l) (parted xs))
-      | no e ↦ rw (fields-other x xs e) (before (fields xs) (parted xs))
-    ]
-  where
-    before : (fs : List (List ℕ)) → 9 ∷ xs ≡ tabbed fs → 9 ∷ (x ∷ xs) ≡ tabbed (onFirst x fs)
-    before [] q = absurd (let z : _≡_ {A = ℕ} 0 1 = cc in (omega arith))
-    before (f ∷ fs) q = let r : xs ≡ f ++ tabbed fs = cc in ap (λ (l : List ℕ). 9 ∷ (x ∷ l)) r
-
 -- what passed a test
-kind-passed : (b : Bool) (k l : Kind) → (k ≡ K.Sample → ⊥) → cond b k l ≡ K.Sample → l ≡ K.Sample
-kind-passed true k l n e = absurd (n e)
-kind-passed false k l n e = e
-
-kind-sample : (b : Bool) (l : Kind) → (l ≡ K.Sample → ⊥) → cond b K.Sample l ≡ K.Sample → b ≡ true
-kind-sample true l n e = refl
-kind-sample false l n e = absurd (n e)
-
 kind-end : (b : Bool) → cond b K.End K.Unknown ≡ K.Sample → ⊥
 kind-end true e = let q : _≡_ {A = ℕ} 0 1 = cc in omega arith
 kind-end false e = let q : _≡_ {A = ℕ} 0 1 = cc in omega arith
-
-letter : (f : List ℕ) (x : ℕ) → isLetter x f ≡ true → f ≡ x ∷ []
-unfolding isLetter
-letter [] x e = absurd (let q : _≡_ {A = ℕ} 0 1 = cc in (omega arith))
-letter (y ∷ []) x e = ap (λ (z : ℕ). z ∷ []) (eqb-true y x e)
-letter (y ∷ (z ∷ zs)) x e = absurd (let n : (suc (suc (length zs)) ≡ 1 → ⊥) = λ h. omega arith in let q : _≡_ {A = ℕ} 0 1 = cc (ne-eqb _ _ n) in (omega arith))
 
 kind-letter : (f : List ℕ) → kindOf f ≡ K.Sample → f ≡ 83 ∷ []
 unfolding kindOf
 kind-letter f e =
     letter f 83
-    (kind-sample (isLetter 83 f) _ (kind-end (isLetter 69 f))
-    (kind-passed (isLetter 67 f) _ _ (λ q. (let z : _≡_ {A = ℕ} 0 1 = cc in omega arith))
-    (kind-passed (isLetter 66 f) _ _ (λ q. (let z : _≡_ {A = ℕ} 0 1 = cc in omega arith))
-    (kind-passed (isLetter 79 f) _ _ (λ q. (let z : _≡_ {A = ℕ} 0 1 = cc in omega arith))
-    (kind-passed (isLetter 68 f) _ _ (λ q. (let z : _≡_ {A = ℕ} 0 1 = cc in omega arith)) e)))))
+    (by-first (isLetter 83 f) K.Sample _ K.Sample (kind-end (isLetter 69 f))
+    (by-second (isLetter 67 f) K.Contract _ K.Sample (λ q. (let z : _≡_ {A = ℕ} 0 1 = cc in omega arith))
+    (by-second (isLetter 66 f) K.Setpoint _ K.Sample (λ q. (let z : _≡_ {A = ℕ} 0 1 = cc in omega arith))
+    (by-second (isLetter 79 f) K.Bounds _ K.Sample (λ q. (let z : _≡_ {A = ℕ} 0 1 = cc in omega arith))
+    (by-second (isLetter 68 f) K.Header _ K.Sample (λ q. (let z : _≡_ {A = ℕ} 0 1 = cc in omega arith)) e)))) .0)
 
 -- no other kind of line says a sample
 no-header : (d : Day) (i : Number) (l : LotField) (q : Number) (s : Sample) → headerFields d i l q ≡ L.Sample s → ⊥
@@ -241,13 +124,11 @@ no-contract (DF.Of d) (N.Value a) N.Malformed s e = let z : _≡_ {A = ℕ} 0 1 
 no-contract (DF.Of d) N.Malformed p s e = let z : _≡_ {A = ℕ} 0 1 = cc in omega arith
 no-contract DF.Malformed a p s e = let z : _≡_ {A = ℕ} 0 1 = cc in omega arith
 
-of-fields : (b : Bool) (l : Line) (s : Sample) → cond b l L.Malformed ≡ L.Sample s → (b ≡ true) × (l ≡ L.Sample s)
-of-fields true l s e = (refl, e)
-of-fields false l s e = absurd (let z : _≡_ {A = ℕ} 0 1 = cc in (omega arith))
+malformed-none : (s : Sample) → L.Malformed ≡ L.Sample s → ⊥
+malformed-none s e = let z : _≡_ {A = ℕ} 0 1 = cc in omega arith
 
-not-long : (b : Bool) (l : Line) (s : Sample) → cond b L.Malformed l ≡ L.Sample s → l ≡ L.Sample s
-not-long true l s e = absurd (let z : _≡_ {A = ℕ} 0 1 = cc in (omega arith))
-not-long false l s e = e
+of-fields : (b : Bool) (l : Line) (s : Sample) → cond b l L.Malformed ≡ L.Sample s → (b ≡ true) × (l ≡ L.Sample s)
+of-fields b l s e = by-first b l L.Malformed (L.Sample s) (malformed-none s) e
 
 two : (x y : Number) (s : Sample) → sampleFields x y ≡ L.Sample s → (x ≡ N.Value (s .setpoint)) × (y ≡ N.Value (s .actual))
 two (N.Value x) (N.Value y) s e =
@@ -285,13 +166,11 @@ said : (line : List ℕ) (s : Sample) → lineOf line ≡ L.Sample s → Said li
 unfolding lineOf sampleOf
 said line s e =
     let fs = fields line in
-    let k = by-kind (kindOf (fieldAt 0 fs)) fs s (not-long (ltb 80 (length line)) _ s e) in
+    let k = by-kind (kindOf (fieldAt 0 fs)) fs s (by-second (ltb 80 (length line)) L.Malformed _ (L.Sample s) (malformed-none s) e) in
     let m = of-fields (eqb (length fs) 3) _ s (k .1) in
     let n = two (numberOf (fieldAt 1 fs)) (numberOf (fieldAt 2 fs)) s (m .1) in
-    let p : 9 ∷ line ≡ tabbed (numbered fs 0 3) = parted line ∙ ap tabbed (counted fs 3 (m .0)) in
-    let q : 9 ∷ line ≡ 9 ∷ (83 ∷ (9 ∷ (fieldAt 1 fs ++ (9 ∷ fieldAt 2 fs)))) =
-    p ∙ ap (λ (l : List ℕ). 9 ∷ (l ++ (9 ∷ (fieldAt 1 fs ++ (9 ∷ (fieldAt 2 fs ++ [])))))) (kind-letter (fieldAt 0 fs) (k .0)) ∙ rw (append-nil (fieldAt 2 fs)) in
-    record { a = fieldAt 1 fs; b = fieldAt 2 fs; form = cc; setpoint = n .0; actual = n .1 }
+    let p : fields line ≡ (83 ∷ []) ∷ (fieldAt 1 fs ∷ (fieldAt 2 fs ∷ [])) = counted fs 3 (m .0) ∙ ap (λ (f : List ℕ). f ∷ (fieldAt 1 fs ∷ (fieldAt 2 fs ∷ []))) (kind-letter (fieldAt 0 fs) (k .0)) in
+    record { a = fieldAt 1 fs; b = fieldAt 2 fs; form = line-of line (83 ∷ []) _ p; setpoint = n .0; actual = n .1 }
 
 record Ranged (to : ℕ) (l : Line) (row : Row) : Type 0 where
   sample : Sample
@@ -321,13 +200,13 @@ shaped s at row [] q e = absurd (let z : _≡_ {A = ℕ} 0 1 = cc in (omega arit
 shaped s at row (line ∷ lines) q e =
     let r = ranged (at + (length line + 1)) (lineOf line) row e in
     let w = said line (r .sample) (r .says) in
-    let p = line-first (written (drop at s)) line lines q in
+    let p = leads (written (drop at s)) line lines q in
     let to : row .to ≡ at + (length line + 1) = ap (λ (t : Row). t .to) (r .is) in
     record {
       a = w .a;
       b = w .b;
       rest = p .rest;
-      form = p .form ∙ ap (λ (l : List ℕ). l ++ (10 ∷ p .rest)) (w .form) ∙ sym (one-line (w .a) (w .b) (p .rest));
+      form = p .form ∙ ap (λ (l : List ℕ). l ++ (10 ∷ p .rest)) (w .form) ∙ sym (one-line (83 ∷ []) (w .a ∷ (w .b ∷ [])) (10 ∷ p .rest));
       setpoint = w .setpoint ∙ ap (λ (t : Row). N.Value (t .setpoint)) (sym (r .is));
       actual = w .actual ∙ ap (λ (t : Row). N.Value (t .actual)) (sym (r .is));
       setpoint-ranged = ap (λ (t : Row). powerInRange (t .setpoint)) (r .is) ∙ r .setpoint;

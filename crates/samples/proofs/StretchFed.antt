@@ -1,6 +1,6 @@
 -- A stretch of samples at a time comes to the same as a line at a time.
-use Prim.Native.Nat.{ℕ, zero, suc, _+_, _%_, _^_, _≤_}
-use mathlib.Core.Path.{_≡_, sym, ap, subst, _∙_}
+use Prim.Native.Nat.{ℕ, suc, _+_, _%_, _^_, _≤_}
+use mathlib.Core.Path.{_≡_, sym, ap, _∙_}
 use mathlib.Core.Bool.{Bool, false}
 use mathlib.Core.List.{List, [], _∷_, _++_}
 use native.Mathlib.Omega.{arith}
@@ -14,28 +14,15 @@ use Rattle.vocabulary.specs.declared.sample.Sample.{Sample}
 use Rattle.lines.specs.Gathering.{pastOf}
 use Rattle.lines.specs.Lines.{linesOf}
 use Rattle.lines.specs.declared.Gatherer.{Gatherer}
-use Rattle.lines.proofs.LineLaws.{NoLf, Written, last, ended, read-back, written}
+use Rattle.lines.proofs.LineLaws.{written}
 use Rattle.reading.specs.Line.{lineOf}
 use Rattle.reading.specs.declared.Line.the-variants as L
 use Rattle.samples.specs.Stretch.{frontSamples, bytesOf}
 use Rattle.samples.proofs.Meaning.{begins}
+use Rattle.samples.proofs.Joined.{leads}
 use Rattle.lines.specs.Turns.{Turn, quiet}
 use Rattle.lines.specs.Feed.{Start, forth, feedOf, onward}
 use Rattle.lines.proofs.FeedLaws.{past-start, past-past, forth-turn, whole-line}
-
--- the first line of some bytes, and what follows it
-record First (line : List ℕ) (lines : List (List ℕ)) (t : List ℕ) : Type 0 where
-  rest : List ℕ
-  form : t ≡ line ++ (10 ∷ rest)
-  then-lines : linesOf rest ≡ lines
-  no-lf : NoLf line
-
-first : {ls : List (List ℕ)} {t : List ℕ} → Written ls t → (line : List ℕ) (lines : List (List ℕ)) → ls ≡ line ∷ lines → First line lines t
-first (last n) line lines e = absurd (let z : _≡_ {A = ℕ} 0 1 = cc in (omega arith))
-first (ended {line = l} {lines = ls} {input} n w) line lines e =
-    let p : l ≡ line = cc in
-    let q : ls ≡ lines = cc in
-    record { rest = input; form = rw p; then-lines = read-back w ∙ q; no-lf = subst NoLf p n }
 
 -- a line that says a sample is not overlong
 not-overlong : (line : List ℕ) (s : Sample) → lineOf line ≡ L.Sample s → length line ≤ 80
@@ -69,7 +56,7 @@ module _ {D : Type 0} (turn : D → ℕ → List ℕ → Turn D) (closed : D →
     one-sample : One
     one-sample =
         let b = begins n (linesOf t) s ss e in
-        let f = first (written t) (b .line) (b .lines) (b .form) in
+        let f = leads (written t) (b .line) (b .lines) (b .form) in
         let w = says d (next (g .count)) (b .line) s o (b .given .says) in
         record {
           line = b .line;

@@ -5,7 +5,7 @@ use mathlib.Core.Bool.{Bool, true, false, cond, _&&_}
 use mathlib.Core.List.{List, [], _∷_}
 use native.Mathlib.Omega.{arith}
 use native.Mathlib.Numerals.{add-one}
-use lib.ListN.{length, take, drop, set, drop-of-length-le}
+use lib.ListN.{length, take, set, drop-of-length-le}
 use lib.Seq.{sets}
 use lib.IntN.{ℤ}
 use Rattle.vocabulary.specs.declared.sample.Sample.{Sample}
@@ -18,12 +18,9 @@ use Rattle.samples.specs.Stretch.{onSample, frontSamples, bytesOf, setpo
 use Rattle.samples.specs.Scan.{rowOf, firstOf}
 use Rattle.samples.specs.declared.Row.{Row}
 use Rattle.samples.specs.declared.First.the-variants as R
+use Rattle.samples.proofs.CutLaws.{no-lines}
 use Rattle.samples.proofs.LineForm.{Shape, lineIn, shape-lines, shape-says, shape-place}
 use Rattle.samples.proofs.LineScan.{from-next}
-
-no-lines : linesOf [] ≡ []
-unfolding linesOf
-no-lines = refl
 
 -- no samples where there is no line, or none is wanted, or the first line says another thing
 pub no-line : (n : ℕ) → frontSamples n [] ≡ []

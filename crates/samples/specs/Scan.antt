@@ -98,6 +98,22 @@ pub record Powered (s : List ℕ) (from : ℕ) (r : Power) : Type 0 where
   pub sound : (f : Found) → r ≡ P.Of f → Names s from f
   pub complete : {z : ℤ} (a : Written s from z) → r ≡ P.Of (record { value = z; to = from + length (a .bytes) })
 
+-- a power, a tab, a power and an LF at a place: the end of a sample's line
+pub record Pair (s : List ℕ) (from : ℕ) (row : Row) : Type 0 where
+  pub a : List ℕ
+  pub b : List ℕ
+  pub rest : List ℕ
+  pub form : drop from s ≡ a ++ (9 ∷ (b ++ (10 ∷ rest)))
+  pub setpoint : numberOf a ≡ N.Value (row .setpoint)
+  pub actual : numberOf b ≡ N.Value (row .actual)
+  pub setpoint-ranged : powerInRange (row .setpoint) ≡ true
+  pub actual-ranged : powerInRange (row .actual) ≡ true
+  pub place : row .to ≡ from + length a + 1 + length b + 1
+
+pub record Paired (s : List ℕ) (from : ℕ) (r : First) : Type 0 where
+  pub sound : (row : Row) → r ≡ R.Of row → Pair s from row
+  pub complete : {row : Row} → Pair s from row → r ≡ R.Of row
+
 -- a line that ends before `to`
 abbrev pub rowOf : ℕ → Line → First
 rowOf to (L.Sample s) =

@@ -1,22 +1,26 @@
 -- `mending::reader::Reader::read_on` meets its contract. Assumes nothing.
 use Prim.Native.Nat.{ℕ, _-_, _≤_}
-use mathlib.Core.Path.{_≡_, refl, sym, ap, _∙_}
+use mathlib.Core.Path.{sym, _∙_}
 use native.Mathlib.Omega.{arith}
 use lib.ListN.{length}
 use borrow.Author.Needs.{needs}
 use Rattle.print.proofs.Writing.{wrote-length}
-use Rattle.mending.proofs.ReaderLaws.{So, so-first, so-more, so-closed, so-full, so-done}
+use Rattle.mending.specs.Reader.{So}
+use Rattle.mending.proofs.ReaderLaws.{so-none, so-then, so-closed, so-full, so-done}
 use Rattle.mending.proofs.reader.Reader.read_on.Statement.{statement}
 use Rattle.mending.proofs.reader.Reader.read_on.Tie as tie
 
 abbrev Inv-loop : tie.InvT-loop
-Inv-loop block out₀ reader₀ i₀ next₀ out reader i next = (i ≤ length block) × So reader₀ block out₀ reader i next out
+Inv-loop block out₀ end reader₀ i₀ next₀ out reader i next = (i ≤ length block) × So reader₀ block 0 out₀ 0 reader i next out
 
 abbrev μ-loop : tie.MeasureT-loop
-μ-loop block out₀ reader₀ i₀ next₀ out reader i next = length block - i
+μ-loop block out₀ end reader₀ i₀ next₀ out reader i next = length block - i
+
+complete-requires : tie.Need-complete-requires Inv-loop μ-loop
+complete-requires c κs = search needs
 
 loop-holds : tie.Need-loop-holds Inv-loop μ-loop
-loop-holds c = (omega arith, so-first _ _ (omega arith))
+loop-holds c = (omega arith, so-none _ _ _ (omega arith) (omega arith))
 
 is-closed-requires : tie.Need-is-closed-requires Inv-loop μ-loop
 is-closed-requires c κs = search needs
@@ -38,27 +42,30 @@ returns-2 c =
     let at-if1 = c .before in
     so-full (c .before .before .before .before .loop .inv .1) (sym (at-if1 .before .is-closed .ensures) ∙ at-if1 .if1 .left) (c .if2 .taken)
 
-line-at-requires : tie.Need-line-at-requires Inv-loop μ-loop
-line-at-requires c κs = c .before .before .before .before .loop-test .taken
+step-requires : tie.Need-step-requires Inv-loop μ-loop
+step-requires c κs =
+    let at-if2 = c .before in
+    let at-if1 = at-if2 .before in
+    let at-test = at-if1 .before .before in
+    (at-test .before .before .complete .ensures, (at-test .loop-test .taken, (sym (at-if1 .before .is-closed .ensures) ∙ at-if1 .if1 .left, at-if2 .if2 .left)))
 
 add-i : tie.Need-add-i Inv-loop μ-loop
 add-i c =
-    let at-line = c .before .before .before .before in
-    omega (arith, at-line .line-at .ensures .within, at-line .before .before .before .before .before .before .before .before .before .good)
+    let at-step = c .before .before .before .before in
+    let at-loop = at-step .before .before .before .before .before .before in
+    omega (arith, at-step .step .ensures .within, at-loop .before .before .before .before .good)
 
 loop-less : tie.Need-loop-less Inv-loop μ-loop
 loop-less c =
-    let at-line = c .before .before .before .before in
-    omega (arith, at-line .line-at .ensures .within, at-line .line-at .ensures .some)
+    let at-step = c .before .before .before .before in
+    omega (arith, at-step .step .ensures .within, at-step .step .ensures .some)
 
 loop-again : tie.Need-loop-again Inv-loop μ-loop
 loop-again c =
-    let at-line = c .before .before .before .before in
-    let at-if2 = at-line .before .before in
-    let at-if1 = at-if2 .before in
-    let inv = at-if1 .before .before .before .loop .inv in
-    let moves = at-line .line-at .ensures in
-    (omega (arith, moves .within), so-more (inv .1) (sym (at-if1 .before .is-closed .ensures) ∙ at-if1 .if1 .left) (at-if2 .if2 .left) moves)
+    let at-step = c .before .before .before .before in
+    let at-loop = at-step .before .before .before .before .before .before in
+    let steps = at-step .step .ensures in
+    (omega (arith, steps .within), so-then (at-loop .loop .inv .1) (steps .so))
 
 same-length-3 : tie.Need-same-length-3 Inv-loop μ-loop
 same-length-3 c = wrote-length (c .before .loop .inv .1 .wrote)
@@ -72,6 +79,7 @@ read-on-spec =
     (tie.spec
     Inv-loop
     μ-loop
+    complete-requires
     loop-holds
     is-closed-requires
     same-length
@@ -79,7 +87,7 @@ read-on-spec =
     sub-if2
     same-length-2
     returns-2
-    line-at-requires
+    step-requires
     add-i
     loop-less
     loop-again
