@@ -17,11 +17,12 @@ use Rattle.lines.specs.Feed as lines
 use Rattle.lines.specs.Feed.{Start, Outcome, stay, forth, onTurn, onward, lineAt}
 use Rattle.lines.specs.Gathering.{freshOf, pastOf, gatheredOf, Starts}
 use Rattle.lines.specs.Handing.{heldBy}
+use Rattle.lines.specs.Turns.{quiet}
 use Rattle.lines.specs.declared.Gatherer.{Gatherer}
 use Rattle.lines.specs.declared.Gathered.{Gathered}
 use Rattle.lines.proofs.Calls.{used-all, used-some, used-within}
 use Rattle.lines.proofs.FeedLaws.{forth-none, forth-turn, closed-stays, onGathered, by-line}
-use Rattle.samples.specs.Stretch.{frontSamples, bytesOf, linesAt, mostOf, setpointsOf, actualsOf}
+use Rattle.samples.specs.Stretch.{frontSamples, bytesOf, linesAt, mostOf, setpointsOf, actualsOf, Stretched}
 use Rattle.samples.specs.Stretch as series
 use Rattle.samples.specs.declared.Stretch.{Stretch}
 use Rattle.samples.proofs.Meaning.{begins, bytes-within, some-bytes, at-most}
@@ -35,8 +36,10 @@ use Rattle.text.specs.Desk.{Turn, Tells, answerOf, deskAt, lineTurn, finishTurn
 use Rattle.text.specs.declared.desk.Stage.the-variants.{Open}
 use Rattle.text.specs.declared.desk.Desk.{Desk}
 use Rattle.text.specs.declared.desk.Told.{Told}
-use Rattle.feed.specs.Reader.{closedOf, feedOf, finishOf, readerOf, over, Yields, lengthOf, Moves, Tries, Steps, Reads}
+use Rattle.feed.specs.Reader.{closedOf, feedOf, finishOf, readerOf, over, Yields, lengthOf}
+use Rattle.feed.specs.Steps.{Finds, Stretches, lineFound, afterOf, turnBy, leftBy, Moves, Reads, fedBy, endedBy}
 use Rattle.feed.specs.declared.Reader.{Reader}
+use Rattle.feed.specs.declared.Found.{Found}
 use Rattle.feed.specs.declared.Moved.{Moved}
 use Rattle.feed.specs.declared.Fed.{Fed}
 use Rattle.feed.proofs.DeskLaws.{sampleLine, says, quietly, open-there, ranged, given-back}
@@ -62,6 +65,18 @@ told-whole {out} {out′} {before} {turn} {told} h t =
       room = t .room;
     }
 
+-- where nothing is said
+pub told-nothing : (desk : Desk) (out : List ℕ) → Tells out desk (quiet desk) (record { desk = desk; printed = Length 0 }) out
+told-nothing desk out =
+    let room : leb 0 (length out) ≡ true = le-leb 0 (length out) (omega arith) in
+    record {
+      prints = record {
+        answer = sym (ap (λ (b : Bool). answerOf desk desk (cond b (Length 0) Printed.TooShort)) room);
+        bytes = sym (ap (λ (b : Bool). cond b (over [] out) out) room);
+      };
+      room = omega arith;
+    }
+
 pub over-length : (text out : List ℕ) → length text ≤ length out → length (over text out) ≡ length out
 over-length text out h = length-append text (drop (length text) out) ∙ (let l : length (drop (length text) out) ≡ length out - length text = length-drop (length text) out in omega arith)
 
@@ -83,29 +98,27 @@ turnOf reader text = record { desk = reader .desk; text = text }
 abbrev pub thenOf : Reader → List ℕ → ℕ → List ℕ → Outcome Desk
 thenOf reader text n rest = onTurn (reader .gatherer) (turnOf reader text) n (feedOf reader rest)
 
+-- what a step leaves, by what was found and what the desk told
+abbrev pub movedBy : Found → Told → Moved
+movedBy f told = record { gatherer = afterOf f; desk = told .desk; used = f .used; printed = lengthOf (told .printed) }
+
 -- ---- A LINE, OR THE REST OF THE BLOCK
 
-module _ (reader : Reader) (block : List ℕ) (at : ℕ) (out : List ℕ) (part : Gathered) (o : closedOf (reader .desk) ≡ false) (h : at < length block)
-    (gathered : part ≡ gatheredOf (reader .gatherer) (take (length block - at) (drop at block))) where
-  is-gathered : part ≡ gatheredOf (reader .gatherer) (drop at block)
-  is-gathered = gathered ∙ ap (gatheredOf (reader .gatherer)) (to-end block at)
+module _ (reader : Reader) (block : List ℕ) (at : ℕ) (out : List ℕ) (o : closedOf (reader .desk) ≡ false) (h : at < length block) where
+  abbrev part : Gathered
+  part = gatheredOf (reader .gatherer) (drop at block)
 
   left : length (drop at block) ≡ length block - at
   left = length-drop at block
 
-  used-is : part .used ≡ gatheredOf (reader .gatherer) (drop at block) .used
-  used-is = ap (λ (r : Gathered). r .used) is-gathered
-
   some-used : 0 < part .used
-  some-used = omega (arith, left, used-is, used-some (drop at block) (reader .gatherer) (omega (arith, left)))
+  some-used = used-some (drop at block) (reader .gatherer) (omega (arith, left))
 
   used-in : at + part .used ≤ length block
-  used-in = omega (arith, left, used-is, used-within (drop at block) (reader .gatherer))
+  used-in = omega (arith, left, used-within (drop at block) (reader .gatherer))
 
   fed : feedOf reader (drop at block) ≡ onGathered lineTurn closedOf (reader .desk) (drop at block) part
-  fed =
-      by-line lineTurn closedOf (drop at block) (reader .gatherer) (reader .desk) o
-      ∙ ap (onGathered lineTurn closedOf (reader .desk) (drop at block)) (sym is-gathered)
+  fed = by-line lineTurn closedOf (drop at block) (reader .gatherer) (reader .desk) o
 
   -- a complete line, or none
   abbrev by-end : Bool → Outcome Desk
@@ -114,63 +127,65 @@ module _ (reader : Reader) (block : List ℕ) (at : ℕ) (out : List ℕ) (part 
       (record { gatherer = part .gatherer; desk = reader .desk; used = part .used; text = [] })
 
   -- no line was complete
-  abbrev after-rest : Reader
-  after-rest = record { gatherer = part .gatherer; desk = reader .desk }
-
-  pub rest-of-block : part .complete ≡ false → Steps reader block at out (record { reader = after-rest; used = part .used; printed = 0 }) out
-  rest-of-block e =
-      let u : part .used ≡ length (drop at block) = used-is ∙ used-all (drop at block) (reader .gatherer) (sym (ap (λ (r : Gathered). r .complete) is-gathered) ∙ e) in
+  rest-of-block : {told : Told} {out′ : List ℕ} → part .complete ≡ false → Told-whole out (quiet (reader .desk)) told out′
+      → Moves reader block at out (record { gatherer = part .gatherer; desk = told .desk; used = part .used; printed = lengthOf (told .printed) }) out′
+  rest-of-block {told} e t =
+      let after : Reader = record { gatherer = part .gatherer; desk = reader .desk } in
+      let u : part .used ≡ length (drop at block) = used-all (drop at block) (reader .gatherer) e in
       let w : length block ≤ at + part .used = omega (arith, left) in
       let z : drop (at + part .used) block ≡ [] = drop-of-length-le block w in
-      let ended : forth (part .used) (feedOf after-rest (drop (at + part .used) block)) ≡ by-end false =
-      ap (forth (part .used)) (at-end after-rest (drop (at + part .used) block) z)
+      let ended : forth (part .used) (feedOf after (drop (at + part .used) block)) ≡ by-end false =
+      ap (forth (part .used)) (at-end after (drop (at + part .used) block) z)
       ∙ ap (λ (n : ℕ). record { gatherer = part .gatherer; desk = reader .desk; used = n; text = [] }) (add-zero (part .used)) in
       record {
-        moves = record { text = []; room = omega arith; printed = refl; bytes = refl; within = used-in; is = fed ∙ ap by-end e ∙ sym ended };
+        text = [];
+        room = omega arith;
+        printed = ap lengthOf (t .printed);
+        bytes = t .bytes;
         some = some-used;
+        within = used-in;
+        is =
+            fed
+            ∙ ap by-end e
+            ∙ sym ended
+            ∙ ap (λ (d : Desk). forth (part .used) (feedOf (record { gatherer = part .gatherer; desk = d }) (drop (at + part .used) block))) (sym (t .desk));
       }
 
   -- the line at hand was complete
   abbrev turn : Turn
   turn = lineTurn (reader .desk) (part .gatherer .count) (heldBy (part .gatherer))
 
-  pub line-of-block : {told : Told} {out′ : List ℕ} {g : Gatherer} {n : ℕ} → part .complete ≡ true → g ≡ freshOf (part .gatherer) → Told-whole out turn told out′ → n ≡ lengthOf (told .printed)
-      → Steps reader block at out (record { reader = record { gatherer = g; desk = told .desk }; used = part .used; printed = n }) out′
-  line-of-block {told} {out′} {g} e f t n =
+  line-of-block : {told : Told} {out′ : List ℕ} → part .complete ≡ true → Told-whole out turn told out′
+      → Moves reader block at out (record { gatherer = freshOf (part .gatherer); desk = told .desk; used = part .used; printed = lengthOf (told .printed) }) out′
+  line-of-block e t =
       record {
-        moves = record {
-          text = turn .text;
-          room = t .room;
-          printed = n ∙ ap lengthOf (t .printed);
-          bytes = t .bytes;
-          within = used-in;
-          is =
-              fed
-              ∙ ap by-end e
-              ∙ ap (onward lineTurn closedOf (freshOf (part .gatherer)) turn (part .used)) (drop-drop (part .used) at block)
-              ∙ ap (λ (y : Gatherer). onward lineTurn closedOf y turn (part .used) (drop (at + part .used) block)) (sym f)
-              ∙ ap (λ (d : Desk). thenOf (record { gatherer = g; desk = d }) (turn .text) (part .used) (drop (at + part .used) block)) (sym (t .desk));
-        };
+        text = turn .text;
+        room = t .room;
+        printed = ap lengthOf (t .printed);
+        bytes = t .bytes;
         some = some-used;
+        within = used-in;
+        is =
+            fed
+            ∙ ap by-end e
+            ∙ ap (onward lineTurn closedOf (freshOf (part .gatherer)) turn (part .used)) (drop-drop (part .used) at block)
+            ∙ ap (λ (d : Desk). thenOf (record { gatherer = freshOf (part .gatherer); desk = d }) (turn .text) (part .used) (drop (at + part .used) block)) (sym (t .desk));
       }
+
+  -- either
+  abbrev left-with : Told → Bool → Moved
+  left-with told b = record { gatherer = cond b (freshOf (part .gatherer)) (part .gatherer); desk = told .desk; used = part .used; printed = lengthOf (told .printed) }
+
+  by-complete : {told : Told} {out′ : List ℕ} (b : Bool) → part .complete ≡ b → Told-whole out (cond b turn (quiet (reader .desk))) told out′ → Moves reader block at out (left-with told b) out′
+  by-complete true e t = line-of-block e t
+  by-complete false e t = rest-of-block e t
+
+  pub line-step : {told : Told} {out′ : List ℕ} → Told-whole out (cond (part .complete) turn (quiet (reader .desk))) told out′ → Moves reader block at out (movedBy (lineFound part) told) out′
+  line-step t = by-complete (part .complete) refl t
 
 -- ---- A STRETCH
 
 module _ (reader : Reader) (block : List ℕ) (at : ℕ) (out : List ℕ) (h : at < length block) where
-  pub no-stretch : {out′ : List ℕ} → out′ ≡ out → Tries reader block at out (record { reader = reader; used = 0; printed = 0 }) out′
-  no-stretch z =
-      record {
-        moves = record {
-          text = [];
-          room = omega arith;
-          printed = refl;
-          bytes = z;
-          within = omega arith;
-          is = forth-none (feedOf reader (drop at block)) ∙ ap (λ (n : ℕ). forth 0 (feedOf reader (drop n block))) (sym (add-zero at));
-        };
-        idle = λ u. z;
-      }
-
   module _ {room : ℕ} {sp ac sp′ ac′ : List ℤ} {read : Stretch} (there : room ≡ roomAt (reader .desk .stage) (reader .desk .run))
       (reads : series.Reads (linesAt block at) 0 (mostOf 0 room sp ac) sp ac sp′ ac′ read) where
     abbrev lines-there : List (List ℕ)
@@ -187,8 +202,8 @@ module _ (reader : Reader) (block : List ℕ) (at : ℕ) (out : List ℕ) (h : a
     pub samples-fit : (read .samples ≤ length sp) × (read .samples ≤ length ac)
     samples-fit = let m = at-most most lines-there in (omega (arith, reads .samples, most-fits .1 .0), omega (arith, reads .samples, most-fits .1 .1))
 
-    pub samples-there : (read .samples ≤ length sp′) × (read .samples ≤ length ac′)
-    samples-there =
+    pub samples-in : (read .samples ≤ length sp′) × (read .samples ≤ length ac′)
+    samples-in =
         let p : length sp′ ≡ length sp = ap length (reads .setpoints) ∙ length-sets sp 0 (setpointsOf (frontSamples most lines-there)) in
         let q : length ac′ ≡ length ac = ap length (reads .actuals) ∙ length-sets ac 0 (actualsOf (frontSamples most lines-there)) in
         (omega (arith, samples-fit .0), omega (arith, samples-fit .1))
@@ -203,8 +218,8 @@ module _ (reader : Reader) (block : List ℕ) (at : ℕ) (out : List ℕ) (h : a
         ∙ ap (λ (l : List ℤ). samplesIn (take (read .samples) (sets sp 0 (setpointsOf (frontSamples most lines-there)))) (take (read .samples) l)) (reads .actuals)
         ∙ given-back (frontSamples most lines-there) sp ac (read .samples) (reads .samples) (samples-fit .0) (samples-fit .1)
 
-    module _ {told : Told} {out′ : List ℕ} {g : Gatherer} {n : ℕ} (start : Start (reader .gatherer)) (some : read .samples ≡ 0 → ⊥) (gone : g ≡ pastOf (read .samples) (reader .gatherer))
-        (t : Told-whole out (samplesTurn (reader .desk) given) told out′) (printed : n ≡ lengthOf (told .printed)) where
+    module _ {told : Told} {out′ : List ℕ} {g : Gatherer} (start : Start (reader .gatherer)) (some : 0 < read .samples) (gone : g ≡ pastOf (read .samples) (reader .gatherer))
+        (t : Told-whole out (samplesTurn (reader .desk) given) told out′) where
       abbrev after : Reader
       after = record { gatherer = g; desk = told .desk }
 
@@ -247,30 +262,109 @@ module _ (reader : Reader) (block : List ℕ) (at : ℕ) (out : List ℕ) (h : a
         left-over : length (drop at block) ≡ length block - at
         left-over = length-drop at block
 
-        stretch : Tries reader block at out (record { reader = after; used = read .bytes; printed = n }) out′
+        stretch : Moves reader block at out (record { gatherer = g; desk = told .desk; used = read .bytes; printed = lengthOf (told .printed) }) out′
         stretch =
             let b = begins most lines-there s ss e in
             record {
-              moves = record {
-                text = text;
-                room = t .room;
-                printed = printed ∙ ap lengthOf (t .printed);
-                bytes = t .bytes;
-                within = omega (arith, used, left-over, bytes-within (length (s ∷ ss)) (drop at block));
-                is = is;
-              };
-              idle = λ u. absurd (let k = some-bytes lines-there (b .line) (b .lines) (length ss) (b .form) in (omega (arith, used)));
+              text = text;
+              room = t .room;
+              printed = ap lengthOf (t .printed);
+              bytes = t .bytes;
+              some = omega (arith, used, some-bytes lines-there (b .line) (b .lines) (length ss) (b .form));
+              within = omega (arith, used, left-over, bytes-within (length (s ∷ ss)) (drop at block));
+              is = is;
             }
 
-      pub stretch-of : Tries reader block at out (record { reader = after; used = read .bytes; printed = n }) out′
-      stretch-of = by-samples (frontSamples most lines-there) refl
+      pub stretch-step : Moves reader block at out (record { gatherer = g; desk = told .desk; used = read .bytes; printed = lengthOf (told .printed) }) out′
+      stretch-step = by-samples (frontSamples most lines-there) refl
         where
-          by-samples : (ss : List Sample) → frontSamples most lines-there ≡ ss → Tries reader block at out (record { reader = after; used = read .bytes; printed = n }) out′
-          by-samples [] e = absurd (some (reads .samples ∙ ap length e))
+          by-samples : (ss : List Sample) → frontSamples most lines-there ≡ ss → Moves reader block at out (record { gatherer = g; desk = told .desk; used = read .bytes; printed = lengthOf (told .printed) }) out′
+          by-samples [] e = absurd (omega (arith, reads .samples ∙ ap length e))
           by-samples (s ∷ ss) e = stretch s ss e
 
-pub other-out : {reader : Reader} {block : List ℕ} {at : ℕ} {out out₁ out′ : List ℕ} {r : Moved} → out₁ ≡ out → Steps reader block at out₁ r out′ → Steps reader block at out r out′
-other-out {reader} {block} {at} {out′ = out′} {r = r} e s = subst (λ (l : List ℕ). Steps reader block at l r out′) e s
+-- ---- WHAT STANDS NEXT
+
+pub found-line : {g : Gatherer} {block : List ℕ} {at room : ℕ} {sp ac sp′ ac′ : List ℤ} {r : Found} → r ≡ lineFound (gatheredOf g (drop at block)) → length sp′ ≡ length sp → length ac′ ≡ length ac
+    → Finds g block at room sp ac sp′ ac′ r
+found-line q s a = record { line = λ e. q; stretch = λ p. absurd (omega (arith, p, ap (λ (f : Found). f .samples) q)); setpoints = s; actuals = a }
+
+-- nothing but places of the arrays was written
+pub same-arrays : {lines : List (List ℕ)} {filled most : ℕ} {sp ac sp′ ac′ : List ℤ} {read : Stretch} → series.Reads lines filled most sp ac sp′ ac′ read → (length sp′ ≡ length sp) × (length ac′ ≡ length ac)
+same-arrays {lines} {filled} {most} {sp} {ac} reads = (
+  ap length (reads .setpoints) ∙ length-sets sp filled (setpointsOf (frontSamples most lines)),
+  ap length (reads .actuals) ∙ length-sets ac filled (actualsOf (frontSamples most lines)),
+)
+
+pub found-stretch : {g g′ : Gatherer} {block : List ℕ} {at room : ℕ} {sp ac sp′ ac′ : List ℤ} {read : Stretch} → Start g → Stretched block at 0 room sp ac sp′ ac′ read → (read .samples ≡ 0 → ⊥)
+    → g′ ≡ pastOf (read .samples) g → Finds g block at room sp ac sp′ ac′ (record { gatherer = g′; used = read .bytes; samples = read .samples; complete = false })
+found-stretch start reads some gone =
+    record {
+      line = λ e. absurd (some e);
+      stretch = λ p. record { start = start; reads = reads; past = gone; line-less = refl };
+      setpoints = same-arrays reads .0;
+      actuals = same-arrays reads .1;
+    }
+
+-- the gatherer after a line
+pub after-line : (f : Found) {g : Gatherer} → f .complete ≡ true → g ≡ freshOf (f .gatherer) → g ≡ afterOf f
+after-line f e q = q ∙ sym (ap (λ (b : Bool). cond b (freshOf (f .gatherer)) (f .gatherer)) e)
+
+-- the desk's turn, by what was found
+module _ (d : Desk) (f : Found) (given : List Sample) where
+  abbrev by-kind : Bool → Bool → Turn
+  by-kind some complete = cond some (samplesTurn d given) (cond complete (lineTurn d (f .gatherer .count) (heldBy (f .gatherer))) (quiet d))
+
+  pub turn-of-stretch : 0 < f .samples → samplesTurn d given ≡ turnBy d f given
+  turn-of-stretch h = sym (ap (λ (b : Bool). by-kind b (f .complete)) (lt-ltb 0 (f .samples) h))
+
+  pub turn-of-line : f .samples ≤ 0 → f .complete ≡ true → lineTurn d (f .gatherer .count) (heldBy (f .gatherer)) ≡ turnBy d f given
+  turn-of-line h e = sym (ap (λ (b : Bool). by-kind b (f .complete)) (le-ltb 0 (f .samples) h) ∙ ap (by-kind false) e)
+
+  pub no-turn : f .samples ≤ 0 → f .complete ≡ false → quiet d ≡ turnBy d f given
+  no-turn h e = sym (ap (λ (b : Bool). by-kind b (f .complete)) (le-ltb 0 (f .samples) h) ∙ ap (by-kind false) e)
+
+-- ---- A STEP: what was found, as the desk told of it
+
+module _ (reader : Reader) (block : List ℕ) (at : ℕ) (out : List ℕ) (o : closedOf (reader .desk) ≡ false) (h : at < length block) {room : ℕ} {sp ac sp′ ac′ : List ℤ} {found : Found}
+    (there : room ≡ roomAt (reader .desk .stage) (reader .desk .run)) (finds : Finds (reader .gatherer) block at room sp ac sp′ ac′ found) where
+  -- no more samples than the arrays hold
+  pub samples-there : (found .samples ≤ length sp′) × (found .samples ≤ length ac′)
+  samples-there = by-samples (found .samples) refl
+    where
+      by-samples : (n : ℕ) → found .samples ≡ n → (found .samples ≤ length sp′) × (found .samples ≤ length ac′)
+      by-samples zero e = (omega arith, omega arith)
+      by-samples (suc n) e = samples-in reader block at out h there (finds .stretch (omega arith) .reads)
+
+  abbrev given-by : Found → List Sample
+  given-by f = samplesIn (take (f .samples) sp′) (take (f .samples) ac′)
+
+  pub step-of : {told : Told} {out′ : List ℕ} → Told-whole out (turnBy (reader .desk) found (given-by found)) told out′ → Moves reader block at out (movedBy found told) out′
+  step-of {told} {out′} t = by-samples (found .samples) refl
+    where
+      by-samples : (n : ℕ) → found .samples ≡ n → Moves reader block at out (movedBy found told) out′
+      by-samples zero e =
+          subst (λ (f : Found). Told-whole out (turnBy (reader .desk) f (given-by f)) told out′ → Moves reader block at out (movedBy f told) out′) (sym (finds .line e))
+          (λ t. line-step reader block at out o h t) t
+      by-samples (suc n) e =
+          let s = finds .stretch (omega arith) in
+          stretch-step reader block at out h there (s .reads) (s .start) (omega arith)
+          (ap (λ (b : Bool). cond b (freshOf (found .gatherer)) (found .gatherer)) (s .line-less) ∙ s .past)
+          (subst
+          (λ (b : Bool). Told-whole out
+          (cond b (samplesTurn (reader .desk) (given-by found)) (cond (found .complete) (lineTurn (reader .desk) (found .gatherer .count) (heldBy (found .gatherer))) (quiet (reader .desk))))
+          told out′)
+          (lt-ltb 0 (found .samples) (omega arith)) t)
+
+  -- as the code comes by it
+  pub one-step : {told : Told} {out′ : List ℕ} {g : Gatherer} {n : ℕ} → bufferLength ≤ length out → Tells out (reader .desk) (turnBy (reader .desk) found (given-by found)) told out′
+      → n ≡ lengthOf (told .printed) → g ≡ afterOf found → Moves reader block at out (record { gatherer = g; desk = told .desk; used = found .used; printed = n }) out′
+  one-step {told} {out′} {g} {n} enough tells e f =
+      subst (λ (k : ℕ). Moves reader block at out (record { gatherer = g; desk = told .desk; used = found .used; printed = k }) out′) (sym e)
+      (subst (λ (y : Gatherer). Moves reader block at out (record { gatherer = y; desk = told .desk; used = found .used; printed = lengthOf (told .printed) }) out′) (sym f)
+      (step-of (told-whole enough tells)))
+
+pub other-out : {reader : Reader} {block : List ℕ} {at : ℕ} {out out₁ out′ : List ℕ} {r : Moved} → out₁ ≡ out → Moves reader block at out₁ r out′ → Moves reader block at out r out′
+other-out {reader} {block} {at} {out′ = out′} {r = r} e s = subst (λ (l : List ℕ). Moves reader block at l r out′) e s
 
 -- where a line starts
 pub start-of : {g : Gatherer} {r : Bool} → Starts g r → r ≡ true → Start g
@@ -286,7 +380,7 @@ so-first start block = forth-none (feedOf start block)
 
 -- an outcome that is known is what was read
 by-outcome : {start : Reader} {block out out′ : List ℕ} {r : Moved} (text : List ℕ)
-    → feedOf start block ≡ record { gatherer = r .reader .gatherer; desk = r .reader .desk; used = r .used; text = text }
+    → feedOf start block ≡ record { gatherer = r .gatherer; desk = r .desk; used = r .used; text = text }
     → r .printed ≡ length text → out′ ≡ over text out → length text ≤ bufferLength → Reads start block out r out′
 by-outcome {start} {block} {out} {out′} {r} text q p b m =
     let e : feedOf start block .text ≡ text = ap (λ (o : Outcome Desk). o .text) q in
@@ -300,16 +394,16 @@ by-outcome {start} {block} {out} {out′} {r} text q p b m =
 
 module _ (start : Reader) (block out : List ℕ) where
   nothing-more : (reader : Reader) (i : ℕ) {exit : List ℕ} → exit ≡ out → So start block reader i → feedOf reader (drop i block) ≡ stay (reader .gatherer) (reader .desk)
-      → Reads start block out (record { reader = reader; used = i; printed = 0 }) exit
+      → Reads start block out (record { gatherer = reader .gatherer; desk = reader .desk; used = i; printed = 0 }) exit
   nothing-more reader i same so e =
       by-outcome [] (so ∙ ap (forth i) e ∙ ap (λ (n : ℕ). record { gatherer = reader .gatherer; desk = reader .desk; used = n; text = [] }) (add-zero i)) refl same (omega arith)
 
   pub so-closed : (reader : Reader) (i : ℕ) {exit : List ℕ} → exit ≡ out → So start block reader i → closedOf (reader .desk) ≡ true
-      → Reads start block out (record { reader = reader; used = i; printed = 0 }) exit
+      → Reads start block out (record { gatherer = reader .gatherer; desk = reader .desk; used = i; printed = 0 }) exit
   so-closed reader i same so e = nothing-more reader i same so (closed-stays lineTurn closedOf (reader .gatherer) (reader .desk) (drop i block) e)
 
   pub so-ended : (reader : Reader) (i : ℕ) {exit : List ℕ} → exit ≡ out → So start block reader i → length block ≤ i
-      → Reads start block out (record { reader = reader; used = i; printed = 0 }) exit
+      → Reads start block out (record { gatherer = reader .gatherer; desk = reader .desk; used = i; printed = 0 }) exit
   so-ended reader i same so h = nothing-more reader i same so (at-end reader (drop i block) (drop-of-length-le block h))
 
 pub moves-length : {block out : List ℕ} {reader : Reader} {i : ℕ} {r : Moved} {out′ : List ℕ} → bufferLength ≤ length out → Moves reader block i out r out′ → length out′ ≡ length out
@@ -317,23 +411,23 @@ moves-length {out = out} h m = ap length (m .bytes) ∙ over-length (m .text) ou
 
 -- a step more
 module _ (start : Reader) {block out : List ℕ} {reader : Reader} {i : ℕ} {r : Moved} {out′ : List ℕ} (so : So start block reader i) (m : Moves reader block i out r out′) where
-  moved : feedOf start block ≡ thenOf (r .reader) (m .text) (i + r .used) (drop (i + r .used) block)
-  moved = so ∙ ap (forth i) (m .is) ∙ forth-turn i (r .reader .gatherer) (turnOf (r .reader) (m .text)) (r .used) _
+  moved : feedOf start block ≡ thenOf (leftBy r) (m .text) (i + r .used) (drop (i + r .used) block)
+  moved = so ∙ ap (forth i) (m .is) ∙ forth-turn i (r .gatherer) (turnOf (leftBy r) (m .text)) (r .used) _
 
-  by-text : (text : List ℕ) → m .text ≡ text → feedOf start block ≡ thenOf (r .reader) text (i + r .used) (drop (i + r .used) block)
-  by-text text e = moved ∙ ap (λ (l : List ℕ). thenOf (r .reader) l (i + r .used) (drop (i + r .used) block)) e
+  by-text : (text : List ℕ) → m .text ≡ text → feedOf start block ≡ thenOf (leftBy r) text (i + r .used) (drop (i + r .used) block)
+  by-text text e = moved ∙ ap (λ (l : List ℕ). thenOf (leftBy r) l (i + r .used) (drop (i + r .used) block)) e
 
-  pub so-on : r .printed ≡ 0 → So start block (r .reader) (i + r .used) × (out′ ≡ out)
+  pub so-on : r .printed ≡ 0 → So start block (leftBy r) (i + r .used) × (out′ ≡ out)
   so-on z = on-text (m .text) refl
     where
-      on-text : (text : List ℕ) → m .text ≡ text → So start block (r .reader) (i + r .used) × (out′ ≡ out)
+      on-text : (text : List ℕ) → m .text ≡ text → So start block (leftBy r) (i + r .used) × (out′ ≡ out)
       on-text [] e = (by-text [] e, m .bytes ∙ ap (λ (l : List ℕ). over l out) e)
       on-text (x ∷ xs) e = absurd (let q : r .printed ≡ suc (length xs) = m .printed ∙ ap length e in (omega arith))
 
-  pub so-told : 0 < r .printed → Reads start block out (record { reader = r .reader; used = i + r .used; printed = r .printed }) out′
+  pub so-told : 0 < r .printed → Reads start block out (record { gatherer = r .gatherer; desk = r .desk; used = i + r .used; printed = r .printed }) out′
   so-told p = on-text (m .text) refl
     where
-      on-text : (text : List ℕ) → m .text ≡ text → Reads start block out (record { reader = r .reader; used = i + r .used; printed = r .printed }) out′
+      on-text : (text : List ℕ) → m .text ≡ text → Reads start block out (record { gatherer = r .gatherer; desk = r .desk; used = i + r .used; printed = r .printed }) out′
       on-text [] e = absurd (let q : r .printed ≡ 0 = m .printed ∙ ap length e in (omega arith))
       on-text (x ∷ xs) e =
           by-outcome (x ∷ xs) (by-text (x ∷ xs) e) (m .printed ∙ ap length e)
@@ -363,13 +457,15 @@ module _ (out : List ℕ) (reader : Reader) (o : Outcome Desk) where
       }
 
 -- the whole of a call, and the input's end
-pub fed-whole : {out out′ : List ℕ} {reader : Reader} {block : List ℕ} {r : Moved} → bufferLength ≤ length out → Reads reader block out r out′
-    → Yields out reader (feedOf reader block) (record { reader = r .reader; used = r .used; printed = Length (r .printed) }) out′
-fed-whole {out} {out′} {reader} {block} h t = long-enough out reader (feedOf reader block) h (t .reader-is) (t .used) (ap Length (t .printed)) (t .bytes) (t .room)
+pub fed-whole : {out out′ : List ℕ} {reader : Reader} {block : List ℕ} {r : Moved} {f : Fed} → bufferLength ≤ length out → f ≡ fedBy r → Reads reader block out r out′
+    → Yields out reader (feedOf reader block) f out′
+fed-whole {out} {out′} {reader} {block} h e t =
+    subst (λ (f : Fed). Yields out reader (feedOf reader block) f out′) (sym e)
+    (long-enough out reader (feedOf reader block) h (t .reader-is) (t .used) (ap Length (t .printed)) (t .bytes) (t .room))
 
-pub finished : {out out′ : List ℕ} {reader : Reader} {n : ℕ} {told : Told} → bufferLength ≤ length out → n ≡ reader .gatherer .count
-    → Tells out (reader .desk) (finishTurn (reader .desk) n) told out′
-    → Yields out reader (finishOf reader) (record { reader = record { gatherer = reader .gatherer; desk = told .desk }; used = 0; printed = told .printed }) out′
-finished {out} {out′} {reader} {n} {told} h e t =
+pub finished : {out out′ : List ℕ} {reader : Reader} {n : ℕ} {told : Told} {f : Fed} → bufferLength ≤ length out → n ≡ reader .gatherer .count
+    → Tells out (reader .desk) (finishTurn (reader .desk) n) told out′ → f ≡ endedBy (reader .gatherer) told → Yields out reader (finishOf reader) f out′
+finished {out} {out′} {reader} {n} {told} h e t q =
     let w = told-whole h (subst (λ (k : ℕ). Tells out (reader .desk) (finishTurn (reader .desk) k) told out′) e t) in
-    long-enough out reader (finishOf reader) h (λ i. record { gatherer = reader .gatherer; desk = w .desk i }) refl (w .printed) (w .bytes) (w .room)
+    subst (λ (f : Fed). Yields out reader (finishOf reader) f out′) (sym q)
+    (long-enough out reader (finishOf reader) h (λ i. record { gatherer = reader .gatherer; desk = w .desk i }) refl (w .printed) (w .bytes) (w .room))

@@ -1,5 +1,5 @@
 -- What the calls of the reader make of a block of input, and of its end (RULES, 'Text').
-use Prim.Native.Nat.{ℕ, _+_, _≤_, _<_}
+use Prim.Native.Nat.{ℕ, _≤_}
 use mathlib.Core.Path.{_≡_}
 use mathlib.Core.Bool.{Bool, cond}
 use mathlib.Core.List.{List, _++_}
@@ -7,7 +7,7 @@ use lib.ListN.{length, drop}
 use lib.Dec.{ltb}
 use Rattle.lines.specs.Gathering.{emptyGatherer}
 use Rattle.lines.specs.Feed as lines
-use Rattle.lines.specs.Feed.{Outcome, onTurn}
+use Rattle.lines.specs.Feed.{Outcome}
 use Rattle.sheets.specs.Buffer.{bufferLength}
 use Rattle.sheets.specs.declared.Printed.{Printed}
 use Rattle.sheets.specs.declared.Printed.the-variants.{Length, TooShort}
@@ -15,7 +15,6 @@ use Rattle.text.specs.Desk.{emptyDesk, lineTurn, finishTurn, closedAt}
 use Rattle.text.specs.declared.desk.Desk.{Desk}
 use Rattle.feed.specs.declared.Reader.{Reader}
 use Rattle.feed.specs.declared.Fed.{Fed}
-use Rattle.feed.specs.declared.Moved.{Moved}
 
 -- before the input
 unfoldable pub emptyReader : Reader
@@ -65,33 +64,3 @@ pub record Yields (out : List ℕ) (reader : Reader) (o : Outcome Desk) (r : Fed
   pub answer : r ≡ fedOf out reader o
   pub bytes : out′ ≡ bytesOf out o
   pub room : lengthOf (r .printed) ≤ length out
-
--- ---- the parts of a call, as the code has them
-
--- a step from place `at` on: what it prints, if anything, ends the call
-pub record Moves (reader : Reader) (block : List ℕ) (at : ℕ) (out : List ℕ) (r : Moved) (out′ : List ℕ) : Type 0 where
-  pub text : List ℕ
-  pub room : length text ≤ bufferLength
-  pub printed : r .printed ≡ length text
-  pub bytes : out′ ≡ over text out
-  pub within : at + r .used ≤ length block
-  pub is : feedOf reader (drop at block)
-      ≡ onTurn (r .reader .gatherer) (record { desk = r .reader .desk; text = text }) (r .used) (feedOf (r .reader) (drop (at + r .used) block))
-
--- a step that may find nothing to do
-pub record Tries (reader : Reader) (block : List ℕ) (at : ℕ) (out : List ℕ) (r : Moved) (out′ : List ℕ) : Type 0 where
-  pub moves : Moves reader block at out r out′
-  pub idle : r .used ≡ 0 → out′ ≡ out
-
--- one that goes on
-pub record Steps (reader : Reader) (block : List ℕ) (at : ℕ) (out : List ℕ) (r : Moved) (out′ : List ℕ) : Type 0 where
-  pub moves : Moves reader block at out r out′
-  pub some : 0 < r .used
-
--- all steps of a call
-pub record Reads (reader : Reader) (block out : List ℕ) (r : Moved) (out′ : List ℕ) : Type 0 where
-  pub reader-is : r .reader ≡ readerOf (feedOf reader block)
-  pub used : r .used ≡ feedOf reader block .used
-  pub printed : r .printed ≡ length (feedOf reader block .text)
-  pub bytes : out′ ≡ over (feedOf reader block .text) out
-  pub room : length (feedOf reader block .text) ≤ bufferLength

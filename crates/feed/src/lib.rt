@@ -7,14 +7,15 @@ use sheets::Printed;
 use text::desk::Desk;
 use text::desk::Told;
 ghost use mathlib.Core.Path.{_≡_};
-ghost use mathlib.Core.Bool.{false};
 ghost use Prim.Native.Nat.{_≤_, _<_};
-ghost use lib.ListN.{length, take};
-ghost use Rattle.lines.specs.Feed.{Start};
+ghost use lib.ListN.{length, take, drop};
+ghost use Rattle.lines.specs.Gathering.{gatheredOf};
 ghost use Rattle.lines.specs.Handing.{heldBy};
+ghost use Rattle.records.specs.Tape.{samplesIn};
 ghost use Rattle.sheets.specs.Buffer.{bufferLength};
 ghost use Rattle.text.specs.Desk.{Tells, lineTurn, closedAt};
-ghost use Rattle.feed.specs.Reader.{emptyReader, lengthOf, Tries, Steps, Reads, feedOf, finishOf, Yields};
+ghost use Rattle.feed.specs.Reader.{emptyReader, lengthOf, feedOf, finishOf, Yields};
+ghost use Rattle.feed.specs.Steps.{readerWith, lineFound, Finds, turnBy, afterOf, Reads, fedBy, endedBy};
 
 // No quarter hour has more samples.
 const MOST: usize = 900;
@@ -33,9 +34,19 @@ pub struct Fed {
     pub printed: Printed,
 }
 
-// The reader after some bytes of a block, and how many bytes were printed.
+// What stands next in a block, and in how many bytes: a stretch of samples, a line with its end, or the rest of a block that ends within one. The
+// gatherer is the one after it, and of a line the one that holds it.
+struct Found {
+    gatherer: Gatherer,
+    used: usize,
+    samples: usize,
+    complete: bool,
+}
+
+// Gatherer and desk after some bytes of a block, and how many bytes were printed.
 struct Moved {
-    reader: Reader,
+    gatherer: Gatherer,
+    desk: Desk,
     used: usize,
     printed: usize,
 }
@@ -66,6 +77,152 @@ fn served(desk: Desk, gatherer: Gatherer, out: &mut [u8]) -> Told
     told(desk, gatherer.count(), &bytes, gatherer.length(), out)
 }
 
+// On to the next line end, or to the end of the block.
+fn line_at(gatherer: Gatherer, block: &[u8], at: usize) -> Found
+    requires { ⌜ at < length (now block) ⌝ }
+    ensures { λ r. ⌜ r ≡ lineFound (gatheredOf gatherer (drop at (now (block .entry)))) ⌝ }
+{
+    let part = gatherer.gather(&block[at..]);
+    let at_hand = part.gatherer;
+    Found {
+        gatherer: at_hand,
+        used: part.used,
+        samples: 0,
+        complete: part.complete,
+    }
+}
+
+// As many samples as there are and the quarter hour takes, where a line starts, else a line. The samples go through two lent series.
+fn next(
+    gatherer: Gatherer,
+    block: &[u8],
+    at: usize,
+    setpoints: &mut [i32],
+    actuals: &mut [i32],
+    room: usize,
+) -> Found
+    requires { ⌜ at < length (now block) ⌝ }
+    ensures { λ r. ⌜ Finds gatherer (now (block .entry)) at room (now (setpoints .entry)) (now (actuals .entry)) (now (setpoints .exit)) (now (actuals .exit)) r ⌝ }
+{
+    if !gatherer.at_start() {
+        return line_at(gatherer, block, at);
+    }
+    let read = read_samples(block, at, setpoints, actuals, 0, room);
+    if read.samples == 0 {
+        return line_at(gatherer, block, at);
+    }
+    Found {
+        gatherer: gatherer.past(read.samples as u64),
+        used: read.bytes,
+        samples: read.samples,
+        complete: false,
+    }
+}
+
+// What the desk makes of it.
+fn told_of(desk: Desk, found: Found, setpoints: &[i32], actuals: &[i32], out: &mut [u8]) -> Told
+    requires { ⌜ (found .samples ≤ length (now setpoints)) × (found .samples ≤ length (now actuals)) ⌝ }
+    ensures { λ r. ⌜ Tells (now (out .entry)) desk (turnBy desk found (samplesIn (take (found .samples) (now (setpoints .entry))) (take (found .samples) (now (actuals .entry))))) r (now (out .exit)) ⌝ }
+{
+    let n = found.samples;
+    if 0 < n {
+        return desk.samples(&setpoints[..n], &actuals[..n], out);
+    }
+    if found.complete {
+        let gatherer = found.gatherer;
+        return served(desk, gatherer, out);
+    }
+    Told {
+        desk,
+        printed: Printed::Length(0),
+    }
+}
+
+// The gatherer for what follows it.
+fn after(found: Found) -> Gatherer
+    ensures { λ r. ⌜ r ≡ afterOf found ⌝ }
+{
+    let gatherer = found.gatherer;
+    if found.complete {
+        return gatherer.fresh();
+    }
+    gatherer
+}
+
+// On until something is printed, the desk is closed, or the block ends. Gatherer and desk go by themselves, and not as a reader, which would have to be
+// taken apart and put together for each step.
+fn read_on(
+    first: Gatherer,
+    opened: Desk,
+    block: &[u8],
+    setpoints: &mut [i32],
+    actuals: &mut [i32],
+    out: &mut [u8],
+) -> Moved
+    requires { ⌜ bufferLength ≤ length (now out) ⌝ }
+    ensures { λ r. ⌜ Reads (readerWith first opened) (now (block .entry)) (now (out .entry)) r (now (out .exit)) ⌝ }
+{
+    let mut gatherer = first;
+    let mut desk = opened;
+    let mut i = 0;
+    while i < block.len() {
+        if desk.is_closed() {
+            return Moved {
+                gatherer,
+                desk,
+                used: i,
+                printed: 0,
+            };
+        }
+        let found = next(gatherer, block, i, setpoints, actuals, desk.room());
+        let answer = told_of(desk, found, setpoints, actuals, out);
+        let printed = answer.printed;
+        let n = length_of(printed);
+        gatherer = after(found);
+        desk = answer.desk;
+        i += found.used;
+        if 0 < n {
+            return Moved {
+                gatherer,
+                desk,
+                used: i,
+                printed: n,
+            };
+        }
+    }
+    Moved {
+        gatherer,
+        desk,
+        used: i,
+        printed: 0,
+    }
+}
+
+// The answer to a call by what it read, and to the input's end by what the desk told.
+fn fed_by(moved: Moved) -> Fed
+    ensures { λ r. ⌜ r ≡ fedBy moved ⌝ }
+{
+    let gatherer = moved.gatherer;
+    let desk = moved.desk;
+    Fed {
+        reader: Reader { gatherer, desk },
+        used: moved.used,
+        printed: Printed::Length(moved.printed),
+    }
+}
+
+fn ended_by(gatherer: Gatherer, told: Told) -> Fed
+    ensures { λ r. ⌜ r ≡ endedBy gatherer told ⌝ }
+{
+    let desk = told.desk;
+    let printed = told.printed;
+    Fed {
+        reader: Reader { gatherer, desk },
+        used: 0,
+        printed,
+    }
+}
+
 impl Reader {
     // Before the input.
     pub fn new() -> Reader
@@ -85,144 +242,6 @@ impl Reader {
         desk.is_closed()
     }
 
-    // On to the next line end, or to the end of the block.
-    fn line_at(self, block: &[u8], at: usize, out: &mut [u8]) -> Moved
-        requires { ⌜ bufferLength ≤ length (now out) ⌝ }
-        requires { ⌜ at < length (now block) ⌝ }
-        requires { ⌜ closedAt (self .desk .stage) ≡ false ⌝ }
-        ensures { λ r. ⌜ Steps self (now (block .entry)) at (now (out .entry)) r (now (out .exit)) ⌝ }
-    {
-        let gatherer = self.gatherer;
-        let desk = self.desk;
-        let part = gatherer.gather(&block[at..]);
-        let at_hand = part.gatherer;
-        if !part.complete {
-            return Moved {
-                reader: Reader {
-                    gatherer: at_hand,
-                    desk,
-                },
-                used: part.used,
-                printed: 0,
-            };
-        }
-        let answer = served(desk, at_hand, out);
-        let after = answer.desk;
-        let printed = answer.printed;
-        Moved {
-            reader: Reader {
-                gatherer: at_hand.fresh(),
-                desk: after,
-            },
-            used: part.used,
-            printed: length_of(printed),
-        }
-    }
-
-    // As many samples as there are and the quarter hour takes, from the start of a line.
-    fn stretch_at(
-        self,
-        block: &[u8],
-        at: usize,
-        setpoints: &mut [i32],
-        actuals: &mut [i32],
-        out: &mut [u8],
-    ) -> Moved
-        requires { ⌜ bufferLength ≤ length (now out) ⌝ }
-        requires { ⌜ at < length (now block) ⌝ }
-        requires { ⌜ closedAt (self .desk .stage) ≡ false ⌝ }
-        requires { ⌜ Start (self .gatherer) ⌝ }
-        ensures { λ r. ⌜ Tries self (now (block .entry)) at (now (out .entry)) r (now (out .exit)) ⌝ }
-    {
-        let gatherer = self.gatherer;
-        let desk = self.desk;
-        let read = read_samples(block, at, setpoints, actuals, 0, desk.room());
-        let n = read.samples;
-        if n == 0 {
-            return Moved {
-                reader: self,
-                used: 0,
-                printed: 0,
-            };
-        }
-        let answer = desk.samples(&setpoints[..n], &actuals[..n], out);
-        let after = answer.desk;
-        let printed = answer.printed;
-        Moved {
-            reader: Reader {
-                gatherer: gatherer.past(n as u64),
-                desk: after,
-            },
-            used: read.bytes,
-            printed: length_of(printed),
-        }
-    }
-
-    // A stretch of samples where a line starts, else a line.
-    fn step(
-        self,
-        block: &[u8],
-        at: usize,
-        setpoints: &mut [i32],
-        actuals: &mut [i32],
-        out: &mut [u8],
-    ) -> Moved
-        requires { ⌜ bufferLength ≤ length (now out) ⌝ }
-        requires { ⌜ at < length (now block) ⌝ }
-        requires { ⌜ closedAt (self .desk .stage) ≡ false ⌝ }
-        ensures { λ r. ⌜ Steps self (now (block .entry)) at (now (out .entry)) r (now (out .exit)) ⌝ }
-    {
-        let gatherer = self.gatherer;
-        if !gatherer.at_start() {
-            return self.line_at(block, at, out);
-        }
-        let moved = self.stretch_at(block, at, setpoints, actuals, out);
-        if 0 < moved.used {
-            return moved;
-        }
-        self.line_at(block, at, out)
-    }
-
-    // On until something is printed, the desk is closed, or the block ends. The samples of a stretch go through two lent series.
-    fn read_on(
-        self,
-        block: &[u8],
-        setpoints: &mut [i32],
-        actuals: &mut [i32],
-        out: &mut [u8],
-    ) -> Moved
-        requires { ⌜ bufferLength ≤ length (now out) ⌝ }
-        ensures { λ r. ⌜ Reads self (now (block .entry)) (now (out .entry)) r (now (out .exit)) ⌝ }
-    {
-        let mut reader = self;
-        let mut i = 0;
-        while i < block.len() {
-            if reader.is_closed() {
-                return Moved {
-                    reader,
-                    used: i,
-                    printed: 0,
-                };
-            }
-            let moved = reader.step(block, i, setpoints, actuals, out);
-            let next = moved.reader;
-            reader = next;
-            i += moved.used;
-            if 0 < moved.printed {
-                return Moved {
-                    reader,
-                    used: i,
-                    printed: moved.printed,
-                };
-            }
-        }
-        Moved {
-            reader,
-            used: i,
-            printed: 0,
-        }
-    }
-
     // A block of the input, from its start on: up to the end of the first line for which something is printed, or to the end or the
     // refusal that closed the desk, or to its own end. What was not used is to be fed again.
     pub fn feed(self, block: &[u8], out: &mut [u8]) -> Fed
@@ -237,13 +256,10 @@ impl Reader {
         }
         let mut setpoints = [0i32; MOST];
         let mut actuals = [0i32; MOST];
-        let moved = self.read_on(block, &mut setpoints, &mut actuals, out);
-        let after = moved.reader;
-        Fed {
-            reader: after,
-            used: moved.used,
-            printed: Printed::Length(moved.printed),
-        }
+        let gatherer = self.gatherer;
+        let desk = self.desk;
+        let moved = read_on(gatherer, desk, block, &mut setpoints, &mut actuals, out);
+        fed_by(moved)
     }
 
     // The input ended.
@@ -260,15 +276,6 @@ impl Reader {
         let gatherer = self.gatherer;
         let desk = self.desk;
         let answer = desk.finish(gatherer.count(), out);
-        let after = answer.desk;
-        let printed = answer.printed;
-        Fed {
-            reader: Reader {
-                gatherer,
-                desk: after,
-            },
-            used: 0,
-            printed,
-        }
+        ended_by(gatherer, answer)
     }
 }

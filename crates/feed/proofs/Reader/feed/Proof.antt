@@ -16,14 +16,17 @@ slice-aggregate-read-on-2 c = search needs
 read-on-requires : tie.Need-read-on-requires
 read-on-requires c κs = search needs
 
+fed-by-requires : tie.Need-fed-by-requires
+fed-by-requires c κs = search needs
+
 same-length : tie.Need-same-length
 same-length c = search needs
 
 returns-2 : tie.Need-returns-2
 returns-2 c =
     let at-read-on = c .before .before .before .before .before in
-    let at-if1 = at-read-on .before .before .before .before in
-    fed-whole (at-if1 .if1 .left) (at-read-on .read-on .ensures)
+    let at-if1 = at-read-on .before .before .before .before .before .before in
+    fed-whole (at-if1 .if1 .left) (c .fed-by .ensures) (at-read-on .read-on .ensures)
 
 pub feed-spec : {M : Type 1} → statement M
 feed-spec =
@@ -33,5 +36,6 @@ feed-spec =
     slice-aggregate-read-on
     slice-aggregate-read-on-2
     read-on-requires
+    fed-by-requires
     same-length
     returns-2)

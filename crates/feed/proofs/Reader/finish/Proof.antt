@@ -13,6 +13,9 @@ count-requires c κs = search needs
 finish-requires : tie.Need-finish-requires
 finish-requires c κs = search needs
 
+ended-by-requires : tie.Need-ended-by-requires
+ended-by-requires c κs = search needs
+
 same-length : tie.Need-same-length
 same-length c = search needs
 
@@ -22,7 +25,7 @@ returns-2 c =
     let at-count = at-finish .before .before in
     let at-if = at-count .before .before .before in
     let entry = at-if .before .before in
-    finished {reader = entry .args .self} (at-if .if1 .left) (at-count .count .ensures) (at-finish .finish .ensures)
+    finished {reader = entry .args .self} (at-if .if1 .left) (at-count .count .ensures) (at-finish .finish .ensures) (c .ended-by .ensures)
 
 pub finish-spec : {M : Type 1} → statement M
-finish-spec = tie.close (tie.spec returns count-requires finish-requires same-length returns-2)
+finish-spec = tie.close (tie.spec returns count-requires finish-requires ended-by-requires same-length returns-2)

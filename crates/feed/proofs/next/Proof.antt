@@ -1,0 +1,60 @@
+-- `feed::next` meets its contract. Assumes nothing.
+use Rattle.feed.proofs.ReaderLaws.{found-line, found-stretch, same-arrays, start-of}
+use borrow.Author.Tests.{not-false}
+use mathlib.Core.Path.{refl}
+use borrow.Author.Needs.{needs}
+use Rattle.feed.proofs.next.Statement.{statement}
+use Rattle.feed.proofs.next.Tie as tie
+
+at-start-requires : tie.Need-at-start-requires
+at-start-requires c κs = search needs
+
+line-at-requires : tie.Need-line-at-requires
+line-at-requires c κs = search needs
+
+returns : tie.Need-returns
+returns c = found-line (c .line-at .ensures) refl refl
+
+read-samples-requires : tie.Need-read-samples-requires
+read-samples-requires c κs = search needs
+
+line-at-requires-2 : tie.Need-line-at-requires-2
+line-at-requires-2 c κs = search needs
+
+same-length : tie.Need-same-length
+same-length c = search needs
+
+same-length-2 : tie.Need-same-length-2
+same-length-2 c = search needs
+
+returns-2 : tie.Need-returns-2
+returns-2 c = let s = same-arrays (c .before .before .before .before .before .read-samples .ensures) in found-line (c .line-at2 .ensures) (s .0) (s .1)
+
+past-requires : tie.Need-past-requires
+past-requires c κs = search needs
+
+same-length-3 : tie.Need-same-length-3
+same-length-3 c = search needs
+
+same-length-4 : tie.Need-same-length-4
+same-length-4 c = search needs
+
+returns-3 : tie.Need-returns-3
+returns-3 c = found-stretch (start-of (c .before .before .before .before .before .before .before .before .before .at-start .ensures) (not-false _ (c .before .before .before .before .before .before .before .before .if1 .left))) (c .before .before .before .before .before .read-samples .ensures) (c .before .if2 .left) (c .past .ensures)
+
+pub next-spec : {M : Type 1} → statement M
+next-spec =
+    tie.close
+    (tie.spec
+    at-start-requires
+    line-at-requires
+    returns
+    read-samples-requires
+    line-at-requires-2
+    same-length
+    same-length-2
+    returns-2
+    past-requires
+    same-length-3
+    same-length-4
+    returns-3)
