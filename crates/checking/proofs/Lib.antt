@@ -1,3 +1,4 @@
 pub mod JudgedLaws
 pub mod CheckerLaws
 pub mod WantedLaws
+pub mod AnswerLaws

@@ -1,5 +1,6 @@
 -- What a checker keeps of the quarter hours until their shares come, and the shares as they come (docs/RULES.md, 'Checking shares').
 use Prim.Native.Nat.{ℕ, _+_, _*_, _-_}
+use mathlib.Core.Bool.{cond}
 use mathlib.Core.List.{List}
 use lib.IntN.{ℤ}
 use lib.ListN.{set, replicate}
@@ -7,6 +8,8 @@ use Rattle.arithmetic.specs.Whole.{leastOf}
 use Rattle.series.specs.Scan.{each}
 use Rattle.vocabulary.specs.declared.direction.Direction.{Direction}
 use Rattle.vocabulary.specs.declared.direction.Direction.the-variants.{Positive, Negative}
+use Rattle.vocabulary.specs.declared.refusal.Refusal.{Refusal}
+use Rattle.vocabulary.specs.Refusals.{accepted}
 use Rattle.quarter.specs.declared.sheet.Figures.{Figures}
 use Rattle.quarter.specs.declared.sheet.Line.{Line}
 use Rattle.quarter.specs.declared.sheet.Sheet.{Sheet}
@@ -50,6 +53,10 @@ withRow kept row sheet = keeping (set (kept .gaps) row (gapsOn sheet)) (set (kep
 
 unfoldable pub withSheets : Kept → ℕ → Sheets → Kept
 withSheets kept q sheets = withRow (withRow kept (rowOf q Positive) (sheets .positive)) (rowOf q Negative) (sheets .negative)
+
+-- what is kept where taking gave this refusal
+abbrev pub keptOf : Refusal → Kept → ℕ → Sheets → Kept
+keptOf refusal kept q sheets = cond (accepted refusal) (withSheets kept q sheets) kept
 
 -- with the share of U line n, counted from 0
 unfoldable pub withShare : Kept → ℕ → ℤ → Kept

@@ -1,15 +1,18 @@
 // The checker takes the lines of an input one after the other, as the desk of the settling program does, and then its U lines. It prints one line, at the end.
+use crate::answers::Follows;
+use crate::answers::Opening;
+use crate::answers::answer_to;
+use crate::answers::opens;
+use crate::answers::what_follows;
 use crate::judged::judged;
 use crate::kept::keep;
 use crate::kept::put_share;
-use crate::wanted::early_refusal;
+use crate::wanted::quarters_of;
 use crate::wanted::share_refusal;
 use crate::wanted::wanted;
 use arithmetic::date::Date;
 use reading::Line;
-use reading::identifier;
 use reading::share::Asked;
-use reading::share::Share;
 use reading::share::read_asked;
 use reading::share::whose;
 use settlement::run::Answer;
@@ -20,16 +23,17 @@ use sheets::verdict::print_verdict;
 use vocabulary::header::Header;
 use vocabulary::header::Lot;
 use vocabulary::refusal::Refusal;
-use vocabulary::sample::Sample;
 ghost use mathlib.Core.Path.{_≡_};
 ghost use mathlib.Core.List.{List};
-ghost use Prim.Native.Nat.{ℕ};
+ghost use Prim.Native.Nat.{ℕ, _^_, _<_};
 ghost use lib.IntN.{ℤ};
-ghost use Rattle.reading.specs.Share.{whoseOf, askedOf};
+ghost use Rattle.vocabulary.specs.Refusals.{numberOf};
+ghost use Rattle.reading.specs.Share.{askedOf};
 ghost use Rattle.sheets.specs.Sheet.{refusalText};
 ghost use Rattle.checking.specs.Kept.{keeping};
-ghost use Rattle.checking.specs.Checker.{checkerAt, standing, emptyChecker, stoppedBy, openedBy, answeredBy, endedBy, quarterTurn, sampleTurn};
-ghost use Rattle.checking.specs.Checker.{shareTurn, firstBy, nextTurn, lateGround, laterTurn, lineTurn, stoppedAt, Told, ruledText, finishText};
+ghost use Rattle.checking.specs.Checker.{checkerAt, standing, emptyChecker, stoppedBy, openedBy, quarterTurn, firstBy, nextTurn, lateGround};
+ghost use Rattle.checking.specs.Checker.{laterTurn, lineTurn, stoppedAt, Told, ruledText, finishText};
+ghost use Rattle.checking.specs.Answers.{faultOf, answeredTurn, lateRefusal, kwhOf, stageAfter, sharesAfter, endingOf};
 
 // A line that was refused, and why.
 pub struct Fault {
@@ -45,6 +49,12 @@ pub enum Stage {
     Stopped(Fault),
 }
 
+// At the input's end: a refusal, or the verdict after so many U lines.
+pub enum Ending {
+    Refused(Fault),
+    Ruled(usize),
+}
+
 pub struct Checker {
     run: Run,
     stage: Stage,
@@ -52,16 +62,26 @@ pub struct Checker {
 
 // After E any line of an input that is settled comes too late.
 fn too_late(said: Line) -> Refusal
-    ensures { λ r. ⌜ r ≡ lateGround said ⌝ }
+    ensures is { λ r. ⌜ r ≡ lateGround said ⌝ }
+    ensures some { λ r. ⌜ 0 < numberOf r ⌝ }
 {
     match said {
-        Line::Header(_) => Refusal::WrongMoment,
-        Line::Bounds(_) => Refusal::WrongMoment,
-        Line::Setpoint(_) => Refusal::WrongMoment,
-        Line::Contract(_) => Refusal::WrongMoment,
-        Line::Sample(_) => Refusal::WrongMoment,
-        Line::End => Refusal::WrongMoment,
-        Line::Malformed => Refusal::BadLine,
+        Line::Header(_) => return Refusal::WrongMoment,
+        Line::Bounds(_) => return Refusal::WrongMoment,
+        Line::Setpoint(_) => return Refusal::WrongMoment,
+        Line::Contract(_) => return Refusal::WrongMoment,
+        Line::Sample(_) => return Refusal::WrongMoment,
+        Line::End => return Refusal::WrongMoment,
+        Line::Malformed => return Refusal::BadLine,
+    }
+}
+
+fn fault_at(number: u64, refusal: Refusal) -> Fault
+    ensures { λ r. ⌜ r ≡ faultOf number refusal ⌝ }
+{
+    Fault {
+        line: number,
+        refusal: refusal,
     }
 }
 
@@ -72,7 +92,76 @@ fn print_fault(fault: Fault, out: &mut [u8]) -> Printed
     print_refusal(out, fault.line, refusal)
 }
 
+fn end_at(stage: Stage, number: u64) -> Ending
+    ensures { λ r. ⌜ r ≡ endingOf stage number ⌝ }
+{
+    match stage {
+        Stage::Empty => return Ending::Refused(fault_at(number, Refusal::NoEnd)),
+        Stage::Open => return Ending::Refused(fault_at(number, Refusal::NoEnd)),
+        Stage::Ended(given) => return Ending::Ruled(given),
+        Stage::Stopped(fault) => return Ending::Refused(fault),
+    }
+}
+
+fn kwh_of(asked: Asked) -> i32
+    ensures { λ r. ⌜ r ≡ kwhOf asked ⌝ }
+{
+    match asked {
+        Asked::Settling(_) => return 0,
+        Asked::Share(share) => return share.kwh,
+    }
+}
+
+// Why a line is refused after E, where so many U lines came before it.
+fn late_refusal(run: Run, given: usize, asked: Asked, line: &[u8]) -> Refusal
+    ensures is { λ r. ⌜ r ≡ lateRefusal run given (now (line .entry)) asked ⌝ }
+    ensures few { λ r. ⌜ (numberOf r ≡ 0 → given < 2 ^ 32) ⌝ }
+{
+    match asked {
+        Asked::Settling(said) => return too_late(said),
+        Asked::Share(share) => return share_refusal(
+            run.books(),
+            quarters_of(run),
+            given,
+            share,
+            whose(line),
+        ),
+    }
+}
+
+// The stage after it; a share that is not refused is kept.
+fn stage_after(number: u64, given: usize, refusal: Refusal, kwh: i32, shares: &mut [i32]) -> Stage
+    requires { ⌜ (numberOf refusal ≡ 0 → given < 2 ^ 32) ⌝ }
+    ensures stage { λ r. ⌜ r ≡ stageAfter number given refusal ⌝ }
+    ensures kept { λ _. ⌜ now (shares .exit) ≡ sharesAfter (now (shares .entry)) given refusal kwh ⌝ }
+{
+    if refusal.number() != 0 {
+        return Stage::Stopped(fault_at(number, refusal));
+    }
+    put_share(shares, given, kwh);
+    Stage::Ended(given + 1)
+}
+
+// A line after E: the stage after it. The run stays as it is.
+fn later(run: Run, number: u64, given: usize, line: &[u8], shares: &mut [i32]) -> Stage
+    ensures { λ r. ⌜ ((gaps : List (List ℕ)) (surpluses : List ℕ) → laterTurn (keeping gaps surpluses (now (shares .entry))) run number (now (line .entry)) given (askedOf (now (line .entry)))
+        ≡ standing (checkerAt r run) (keeping gaps surpluses (now (shares .exit)))) ⌝ }
+{
+    let asked = read_asked(line);
+    let refusal = late_refusal(run, given, asked, line);
+    stage_after(number, given, refusal, kwh_of(asked), shares)
+}
+
 impl Checker {
+    fn at(run: Run, stage: Stage) -> Checker
+        ensures { λ r. ⌜ r ≡ checkerAt stage run ⌝ }
+    {
+        Checker {
+            run: run,
+            stage: stage,
+        }
+    }
+
     // Nothing was read yet: the run is what a refused opening gives.
     pub fn new() -> Checker
         ensures { λ r. ⌜ r ≡ emptyChecker ⌝ }
@@ -88,30 +177,13 @@ impl Checker {
             quarters: 0,
         };
         let opened = Run::open(none);
-        let run = opened.run;
-        Checker {
-            run: run,
-            stage: Stage::Empty,
-        }
-    }
-
-    fn at(run: Run, stage: Stage) -> Checker
-        ensures { λ r. ⌜ r ≡ checkerAt stage run ⌝ }
-    {
-        Checker {
-            run: run,
-            stage: stage,
-        }
+        Checker::at(opened.run, Stage::Empty)
     }
 
     fn stopped(run: Run, number: u64, refusal: Refusal) -> Checker
         ensures { λ r. ⌜ r ≡ stoppedBy run number refusal ⌝ }
     {
-        let fault = Fault {
-            line: number,
-            refusal: refusal,
-        };
-        Checker::at(run, Stage::Stopped(fault))
+        Checker::at(run, Stage::Stopped(fault_at(number, refusal)))
     }
 
     fn open(run: Run, number: u64, header: Header) -> Checker
@@ -125,135 +197,52 @@ impl Checker {
         Checker::at(opened.run, Stage::Open)
     }
 
-    fn answered(run: Run, number: u64, answer: Answer) -> Checker
-        ensures { λ r. ⌜ r ≡ answeredBy run number answer ⌝ }
+    // A line before the header.
+    fn first(run: Run, number: u64, line: &[u8]) -> Checker
+        ensures { λ r. ⌜ r ≡ firstBy run number (askedOf (now (line .entry))) ⌝ }
     {
-        let refusal = answer.refusal;
-        if refusal.number() != 0 {
-            return Checker::stopped(run, number, refusal);
+        let wanted = opens(line);
+        match wanted {
+            Opening::Header(header) => return Checker::open(run, number, header),
+            Opening::Refused(refusal) => return Checker::stopped(run, number, refusal),
         }
-        Checker::at(answer.run, Stage::Open)
     }
 
-    fn end(run: Run, number: u64) -> Checker
-        ensures { λ r. ⌜ r ≡ endedBy run number ⌝ }
-    {
-        let ended = run.end();
-        let refusal = ended.refusal;
-        if refusal.number() != 0 {
-            return Checker::stopped(run, number, refusal);
-        }
-        Checker::at(ended.run, Stage::Ended(0))
-    }
-
-    // After a sample: the quarter hour is taken if it is full, and what its shares will be looked at against is kept.
+    // After a sample: the quarter hour is taken if it is full.
     fn quarter(run: Run, gaps: &mut [[u32; 32]], surpluses: &mut [u32]) -> Checker
         ensures { λ r. ⌜ ((shares : List ℤ) → quarterTurn (keeping (now (gaps .entry)) (now (surpluses .entry)) shares) run
             ≡ standing r (keeping (now (gaps .exit)) (now (surpluses .exit)) shares)) ⌝ }
     {
         let taken = run.take();
         let refusal = taken.refusal;
-        if refusal.number() != 0 {
-            return Checker::at(run, Stage::Open);
-        }
-        let sheets = taken.sheets;
-        keep(gaps, surpluses, taken.quarter, sheets);
+        keep(gaps, surpluses, refusal, taken.quarter, taken.sheets);
         Checker::at(taken.run, Stage::Open)
     }
 
-    fn sample(
-        run: Run,
+    // The run has answered a line: what follows it, unless it was refused. Then the run is the one that was asked.
+    fn answered(
         number: u64,
-        sample: Sample,
+        answer: Answer,
+        follows: Follows,
         gaps: &mut [[u32; 32]],
         surpluses: &mut [u32],
     ) -> Checker
-        ensures { λ r. ⌜ ((shares : List ℤ) → sampleTurn (keeping (now (gaps .entry)) (now (surpluses .entry)) shares) run number sample
+        ensures { λ r. ⌜ ((shares : List ℤ) → answeredTurn (keeping (now (gaps .entry)) (now (surpluses .entry)) shares) number answer follows
             ≡ standing r (keeping (now (gaps .exit)) (now (surpluses .exit)) shares)) ⌝ }
     {
-        let answer = run.sample(sample);
         let refusal = answer.refusal;
         if refusal.number() != 0 {
-            return Checker::stopped(run, number, refusal);
+            return Checker::stopped(answer.run, number, refusal);
         }
-        Checker::quarter(answer.run, gaps, surpluses)
-    }
-
-    // A line before the header.
-    fn first(run: Run, number: u64, said: Line) -> Checker
-        ensures { λ r. ⌜ r ≡ firstBy run number (Asked.Settling said) ⌝ }
-    {
-        match said {
-            Line::Header(header) => Checker::open(run, number, header),
-            Line::Bounds(_) => Checker::stopped(run, number, Refusal::WrongMoment),
-            Line::Setpoint(_) => Checker::stopped(run, number, Refusal::WrongMoment),
-            Line::Contract(_) => Checker::stopped(run, number, Refusal::WrongMoment),
-            Line::Sample(_) => Checker::stopped(run, number, Refusal::WrongMoment),
-            Line::End => Checker::stopped(run, number, Refusal::WrongMoment),
-            Line::Malformed => Checker::stopped(run, number, Refusal::BadLine),
+        match follows {
+            Follows::Quarter => return Checker::quarter(answer.run, gaps, surpluses),
+            Follows::End => return Checker::at(answer.run, Stage::Ended(0)),
+            Follows::Nothing => return Checker::at(answer.run, Stage::Open),
         }
     }
 
     // A line while the run is open.
     fn next(
-        run: Run,
-        number: u64,
-        said: Line,
-        line: &[u8],
-        gaps: &mut [[u32; 32]],
-        surpluses: &mut [u32],
-    ) -> Checker
-        ensures { λ r. ⌜ ((shares : List ℤ) → nextTurn (keeping (now (gaps .entry)) (now (surpluses .entry)) shares) run number (now (line .entry)) (Asked.Settling said)
-            ≡ standing r (keeping (now (gaps .exit)) (now (surpluses .exit)) shares)) ⌝ }
-    {
-        match said {
-            Line::Header(_) => Checker::stopped(run, number, Refusal::WrongMoment),
-            Line::Bounds(bounds) => Checker::answered(run, number, run.bounds(bounds)),
-            Line::Setpoint(setpoint) => Checker::answered(run, number, run.setpoint(setpoint)),
-            Line::Contract(contract) => Checker::answered(
-                run,
-                number,
-                run.contract(contract, identifier(line)),
-            ),
-            Line::Sample(sample) => Checker::sample(run, number, sample, gaps, surpluses),
-            Line::End => Checker::end(run, number),
-            Line::Malformed => Checker::stopped(run, number, Refusal::BadLine),
-        }
-    }
-
-    // A U line after E, where so many came before it.
-    fn share(
-        run: Run,
-        number: u64,
-        given: usize,
-        share: Share,
-        line: &[u8],
-        shares: &mut [i32],
-    ) -> Checker
-        ensures { λ r. ⌜ ((gaps : List (List ℕ)) (surpluses : List ℕ) → shareTurn (keeping gaps surpluses (now (shares .entry))) run number given share (whoseOf (now (line .entry)))
-            ≡ standing r (keeping gaps surpluses (now (shares .exit)))) ⌝ }
-    {
-        let refusal = share_refusal(run.books(), run.end().quarters, given, share, whose(line));
-        if refusal.number() != 0 {
-            return Checker::stopped(run, number, refusal);
-        }
-        put_share(shares, given, share.kwh);
-        Checker::at(run, Stage::Ended(given + 1))
-    }
-
-    // A line before the header; a share is one like any other there.
-    fn asked_first(run: Run, number: u64, line: &[u8]) -> Checker
-        ensures { λ r. ⌜ r ≡ firstBy run number (askedOf (now (line .entry))) ⌝ }
-    {
-        let asked = read_asked(line);
-        match asked {
-            Asked::Settling(said) => Checker::first(run, number, said),
-            Asked::Share(_) => Checker::stopped(run, number, Refusal::WrongMoment),
-        }
-    }
-
-    // A line while the run is open; a share comes too early there.
-    fn asked_next(
         run: Run,
         number: u64,
         line: &[u8],
@@ -264,22 +253,8 @@ impl Checker {
             ≡ standing r (keeping (now (gaps .exit)) (now (surpluses .exit)) shares)) ⌝ }
     {
         let asked = read_asked(line);
-        match asked {
-            Asked::Settling(said) => Checker::next(run, number, said, line, gaps, surpluses),
-            Asked::Share(_) => Checker::stopped(run, number, early_refusal(run, whose(line))),
-        }
-    }
-
-    // A line after E.
-    fn asked_later(run: Run, number: u64, given: usize, line: &[u8], shares: &mut [i32]) -> Checker
-        ensures { λ r. ⌜ ((gaps : List (List ℕ)) (surpluses : List ℕ) → laterTurn (keeping gaps surpluses (now (shares .entry))) run number (now (line .entry)) given (askedOf (now (line .entry)))
-            ≡ standing r (keeping gaps surpluses (now (shares .exit)))) ⌝ }
-    {
-        let asked = read_asked(line);
-        match asked {
-            Asked::Settling(said) => Checker::stopped(run, number, too_late(said)),
-            Asked::Share(share) => Checker::share(run, number, given, share, line, shares),
-        }
+        let answer = answer_to(run, asked, line);
+        Checker::answered(number, answer, what_follows(asked), gaps, surpluses)
     }
 
     // One complete line of the input, without its LF; lines count from 1.
@@ -295,24 +270,27 @@ impl Checker {
             ≡ standing r (keeping (now (gaps .exit)) (now (surpluses .exit)) (now (shares .exit))) ⌝ }
     {
         let stage = self.stage;
-        let run = self.run;
         match stage {
-            Stage::Empty => Checker::asked_first(run, number, line),
-            Stage::Open => Checker::asked_next(run, number, line, gaps, surpluses),
-            Stage::Ended(given) => Checker::asked_later(run, number, given, line, shares),
-            Stage::Stopped(_) => self,
+            Stage::Empty => return Checker::first(self.run, number, line),
+            Stage::Open => return Checker::next(self.run, number, line, gaps, surpluses),
+            Stage::Ended(given) => return Checker::at(
+                self.run,
+                later(self.run, number, given, line, shares),
+            ),
+            Stage::Stopped(_) => return self,
         }
     }
+
     // Whether a line was refused: then nothing is read any more.
     pub fn is_stopped(self) -> bool
         ensures { λ r. ⌜ r ≡ stoppedAt (self .stage) ⌝ }
     {
         let stage = self.stage;
         match stage {
-            Stage::Empty => false,
-            Stage::Open => false,
-            Stage::Ended(_) => false,
-            Stage::Stopped(_) => true,
+            Stage::Empty => return false,
+            Stage::Open => return false,
+            Stage::Ended(_) => return false,
+            Stage::Stopped(_) => return true,
         }
     }
 
@@ -330,7 +308,7 @@ impl Checker {
             (ruledText run (keeping (now (gaps .entry)) (now (surpluses .entry)) (now (shares .entry))) number given) r (now (out .exit)) ⌝ }
     {
         let books = run.books();
-        let quarters = run.end().quarters;
+        let quarters = quarters_of(run);
         if wanted(books, quarters) != given {
             return print_refusal(out, number, Refusal::MisplacedShare);
         }
@@ -351,12 +329,18 @@ impl Checker {
     {
         let number = std::num::wrapping_add_u64(count, 1);
         let stage = self.stage;
-        let run = self.run;
-        match stage {
-            Stage::Empty => print_refusal(out, number, Refusal::NoEnd),
-            Stage::Open => print_refusal(out, number, Refusal::NoEnd),
-            Stage::Ended(given) => Checker::ruled(run, number, given, gaps, surpluses, shares, out),
-            Stage::Stopped(fault) => print_fault(fault, out),
+        let end = end_at(stage, number);
+        match end {
+            Ending::Refused(fault) => return print_fault(fault, out),
+            Ending::Ruled(given) => return Checker::ruled(
+                self.run,
+                number,
+                given,
+                gaps,
+                surpluses,
+                shares,
+                out,
+            ),
         }
     }
 }

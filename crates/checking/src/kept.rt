@@ -6,13 +6,14 @@ use quarter::sheet::Figures;
 use quarter::sheet::Line;
 use quarter::sheet::Sheet;
 use quarter::sheet::Sheets;
+use vocabulary::refusal::Refusal;
 ghost use mathlib.Core.Path.{_≡_};
 ghost use mathlib.Core.List.{List};
 ghost use Prim.Native.Nat.{_^_, _<_};
 ghost use lib.IntN.{ℤ};
 ghost use lib.ListN.{set};
 ghost use Rattle.series.specs.Scan.{each};
-ghost use Rattle.checking.specs.Kept.{gapIn, gapOn, keeping, withRow, withSheets};
+ghost use Rattle.checking.specs.Kept.{gapIn, gapOn, keeping, keptOf, withRow};
 
 fn wide(energy: Kwh) -> u64
     ensures { λ r. ⌜ (r ≡ energy .0) × (r < 2 ^ 32) ⌝ }
@@ -36,8 +37,7 @@ fn gaps_of(lines: [Line; 32]) -> [u32; 32]
     let mut k = 0;
     while k < 32 {
         let line = lines[k];
-        let figures = line.figures;
-        out[k] = gap(figures);
+        out[k] = gap(line.figures);
         k += 1;
     }
     out
@@ -73,19 +73,25 @@ fn keep_row(gaps: &mut [[u32; 32]], surpluses: &mut [u32], row: usize, sheet: Sh
         ≡ keeping (now (gaps .exit)) (now (surpluses .exit)) shares) ⌝ }
 {
     let lines = sheet.lines;
-    let pool = sheet.pool;
     put_gaps(gaps, row, gaps_of(lines));
-    put_surplus(surpluses, row, pool.surplus);
+    put_surplus(surpluses, row, sheet.pool.surplus);
 }
 
-// Both directions.
-pub(crate) fn keep(gaps: &mut [[u32; 32]], surpluses: &mut [u32], quarter: u8, sheets: Sheets)
-    ensures { λ _. ⌜ ((shares : List ℤ) → withSheets (keeping (now (gaps .entry)) (now (surpluses .entry)) shares) quarter sheets
+// Both directions of a quarter hour that was taken; nothing is kept where it was refused.
+pub(crate) fn keep(
+    gaps: &mut [[u32; 32]],
+    surpluses: &mut [u32],
+    refusal: Refusal,
+    quarter: u8,
+    sheets: Sheets,
+)
+    ensures { λ _. ⌜ ((shares : List ℤ) → keptOf refusal (keeping (now (gaps .entry)) (now (surpluses .entry)) shares) quarter sheets
         ≡ keeping (now (gaps .exit)) (now (surpluses .exit)) shares) ⌝ }
 {
+    if refusal.number() != 0 {
+        return;
+    }
     let row = (quarter as usize) * 2;
-    let positive = sheets.positive;
-    let negative = sheets.negative;
-    keep_row(gaps, surpluses, row, positive);
-    keep_row(gaps, surpluses, row + 1, negative);
+    keep_row(gaps, surpluses, row, sheets.positive);
+    keep_row(gaps, surpluses, row + 1, sheets.negative);
 }

@@ -5,3 +5,4 @@ pub mod checker; // Checker: the lines one after the other, and the verdict at t
 mod kept; // what is put into the lent lists
 mod wanted; // which U line is wanted next
 mod judged; // the verdict
+mod answers; // what the run answers to a line, and what follows

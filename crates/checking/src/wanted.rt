@@ -9,6 +9,7 @@ use vocabulary::refusal::Refusal;
 ghost use mathlib.Core.Path.{_≡_};
 ghost use Prim.Native.Nat.{_+_, _^_, _<_, _≤_};
 ghost use Rattle.vocabulary.specs.Refusals.{numberOf};
+ghost use Rattle.settlement.specs.Run.{endedOf};
 ghost use Rattle.checking.specs.Wanted.{wantedIn, placeOf, isQuarter, sameDirection, saysPlace, isWanted, shareGround, earlyGround};
 
 // What a U line has to say: the quarter hour, the direction, and the contract by its place in its list.
@@ -79,6 +80,13 @@ fn says_place(books: Books, place: Place, share: Share, identifier: &[u8]) -> bo
         return false;
     }
     books.book(direction).names(place.contract, identifier)
+}
+
+// How many quarter hours were taken.
+pub(crate) fn quarters_of(run: Run) -> u8
+    ensures { λ r. ⌜ r ≡ endedOf run .quarters ⌝ }
+{
+    run.end().quarters
 }
 
 // How many U lines so many quarter hours have.

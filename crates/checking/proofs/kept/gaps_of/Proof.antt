@@ -42,8 +42,8 @@ loop-less c = omega arith
 loop-again : tie.Need-loop-again Inv-loop μ-loop
 unfolding noFigures
 loop-again c =
-    let s = c .before .before .before .before .before in
-    let l = c .before .before .before .before .loop in
+    let s = c .before .before .before .before in
+    let l = c .before .before .before .loop in
     rw (c .gap .ensures) (mapped-more gapOn (s .args .t1) (replicate 32 0) (l .out) (l .k) past-end (omega (arith, s .good)) (omega (arith, s .good)) (l .inv))
 
 returns : tie.Need-returns Inv-loop μ-loop

@@ -1,10 +1,17 @@
--- `checking::kept::keep` meets its contract: one row after the other. Assumes nothing.
-use Rattle.checking.specs.Kept.{Kept, withRow, withSheets}
-use mathlib.Core.Path.{ap, _∙_}
+-- `checking::kept::keep` meets its contract. Assumes nothing.
 use Prim.Native.Nat.{_+_, _*_}
+use mathlib.Core.Path.{refl, ap, _∙_}
+use Rattle.checking.specs.Kept.{Kept, withRow, withSheets}
+use Rattle.checking.proofs.CheckerLaws.{none-refused, some-refused}
 use borrow.Author.Needs.{needs}
 use Rattle.checking.proofs.kept.keep.Statement.{statement}
 use Rattle.checking.proofs.kept.keep.Tie as tie
+
+number-requires : tie.Need-number-requires
+number-requires c κs = search needs
+
+returns : tie.Need-returns
+returns c = λ shares. rw (some-refused {refusal = c .before .before .before .args .refusal} (c .before .number .ensures) refl (c .if1 .taken))
 
 mul-row : tie.Need-mul-row
 mul-row c = search needs
@@ -24,23 +31,24 @@ same-length c = search needs
 same-length-2 : tie.Need-same-length-2
 same-length-2 c = search needs
 
-returns : tie.Need-returns
+returns-2 : tie.Need-returns-2
 unfolding withSheets
-returns c =
-    let at-keep-row2 = c .before .before .before in
-    let at-keep-row = at-keep-row2 .before .before .before .before .before .before in
-    let start = at-keep-row .before .before .before .before .before .before in
+returns-2 c =
+    let a = c .before .before .before .before .before .before .before .before .before .before .before .before .before .before .before .args in
     λ shares.
-    ap (λ (k : Kept). withRow k (start .args .quarter * 2 + 1) (start .args .sheets .negative)) (at-keep-row .keep-row .ensures shares) ∙ at-keep-row2 .keep-row2 .ensures shares
+    rw (none-refused {refusal = a .refusal} (c .before .before .before .before .before .before .before .before .before .before .before .before .before .number .ensures) refl (c .before .before .before .before .before .before .before .before .before .before .before .before .if1 .left))
+    (ap (λ (k : Kept). withRow k (a .quarter * 2 + 1) (a .sheets .negative)) (c .before .before .before .before .before .before .before .before .before .keep-row .ensures shares) ∙ c .before .before .before .keep-row2 .ensures shares)
 
 pub keep-spec : {M : Type 1} → statement M
 keep-spec =
     tie.close
     (tie.spec
+    number-requires
+    returns
     mul-row
     keep-row-requires
     add-keep-row
     keep-row-requires-2
     same-length
     same-length-2
-    returns)
+    returns-2)

@@ -19,11 +19,7 @@ same-length-2 : tie.Need-same-length-2
 same-length-2 c = search needs
 
 returns : tie.Need-returns
-returns c =
-    let at-put-surplus = c .before .before in
-    let at-put-gaps = at-put-surplus .before .before .before in
-    let at-gaps-of = at-put-gaps .before in
-    λ shares. rw (at-put-gaps .put-gaps .ensures, at-put-surplus .put-surplus .ensures, at-gaps-of .gaps-of .ensures)
+returns c = λ shares. rw (c .before .before .before .before .before .put-gaps .ensures, c .before .before .put-surplus .ensures, c .before .before .before .before .before .before .gaps-of .ensures)
 
 pub keep-row-spec : {M : Type 1} → statement M
 keep-row-spec =

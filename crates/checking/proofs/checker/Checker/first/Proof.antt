@@ -1,93 +1,40 @@
 -- `checking::checker::Checker::first` meets its contract. Assumes nothing.
+use denote.Ref.{now}
+use Rattle.reading.specs.Share.{askedOf}
+use Rattle.checking.proofs.AnswerLaws.{first-parts}
 use borrow.Author.Needs.{needs}
 use Rattle.checking.proofs.checker.Checker.first.Statement.{statement}
 use Rattle.checking.proofs.checker.Checker.first.Tie as tie
 
-enum-known-said : tie.Need-enum-known-said
-enum-known-said c = search needs
+opens-requires : tie.Need-opens-requires
+opens-requires c κs = search needs
+
+enum-known-wanted : tie.Need-enum-known-wanted
+enum-known-wanted c = search needs
 
 open-requires : tie.Need-open-requires
 open-requires c κs = search needs
 
-enum-told : tie.Need-enum-told
-enum-told c = search needs
+returns : tie.Need-returns
+returns c = rw (first-parts (c .before .before .before .before .before .before .args .run) (c .before .before .before .before .before .before .args .number) (askedOf (now (c .before .before .before .before .before .before .args .line))), ← c .before .before .before .before .opens .ensures, c .before .before .wanted .given .1) (c .«open» .ensures)
+
+enum-known-wanted-2 : tie.Need-enum-known-wanted-2
+enum-known-wanted-2 c = search needs
 
 stopped-requires : tie.Need-stopped-requires
 stopped-requires c κs = search needs
 
-enum-told-2 : tie.Need-enum-told-2
-enum-told-2 c = search needs
-
-stopped-requires-2 : tie.Need-stopped-requires-2
-stopped-requires-2 c κs = search needs
-
-enum-told-3 : tie.Need-enum-told-3
-enum-told-3 c = search needs
-
-stopped-requires-3 : tie.Need-stopped-requires-3
-stopped-requires-3 c κs = search needs
-
-enum-told-4 : tie.Need-enum-told-4
-enum-told-4 c = search needs
-
-stopped-requires-4 : tie.Need-stopped-requires-4
-stopped-requires-4 c κs = search needs
-
-enum-told-5 : tie.Need-enum-told-5
-enum-told-5 c = search needs
-
-stopped-requires-5 : tie.Need-stopped-requires-5
-stopped-requires-5 c κs = search needs
-
-enum-told-6 : tie.Need-enum-told-6
-enum-told-6 c = search needs
-
-stopped-requires-6 : tie.Need-stopped-requires-6
-stopped-requires-6 c κs = search needs
-
-returns : tie.Need-returns
-returns c = rw (c .before .before .said .given .1) (c .«open» .ensures)
-
 returns-2 : tie.Need-returns-2
-returns-2 c = rw (c .before .enum-told .given .1) (c .stopped .ensures)
-
-returns-3 : tie.Need-returns-3
-returns-3 c = rw (c .before .enum-told2 .given .1) (c .stopped2 .ensures)
-
-returns-4 : tie.Need-returns-4
-returns-4 c = rw (c .before .enum-told3 .given .1) (c .stopped3 .ensures)
-
-returns-5 : tie.Need-returns-5
-returns-5 c = rw (c .before .enum-told4 .given .1) (c .stopped4 .ensures)
-
-returns-6 : tie.Need-returns-6
-returns-6 c = rw (c .before .enum-told5 .given .1) (c .stopped5 .ensures)
-
-returns-7 : tie.Need-returns-7
-returns-7 c = rw (c .before .enum-told6 .given .1) (c .stopped6 .ensures)
+returns-2 c = rw (first-parts (c .before .before .before .before .before .before .args .run) (c .before .before .before .before .before .before .args .number) (askedOf (now (c .before .before .before .before .before .before .args .line))), ← c .before .before .before .before .opens .ensures, c .before .before .wanted2 .given .1) (c .stopped .ensures)
 
 pub first-spec : {M : Type 1} → statement M
 first-spec =
     tie.close
     (tie.spec
-    enum-known-said
+    opens-requires
+    enum-known-wanted
     open-requires
-    enum-told
-    stopped-requires
-    enum-told-2
-    stopped-requires-2
-    enum-told-3
-    stopped-requires-3
-    enum-told-4
-    stopped-requires-4
-    enum-told-5
-    stopped-requires-5
-    enum-told-6
-    stopped-requires-6
     returns
-    returns-2
-    returns-3
-    returns-4
-    returns-5
-    returns-6
-    returns-7)
+    enum-known-wanted-2
+    stopped-requires
+    returns-2)
