@@ -35,7 +35,10 @@ same-length-3 : tie.Need-same-length-3 Inv-loop μ-loop
 same-length-3 c = ap length (c .before .before .before .loop .inv .2)
 
 returns : tie.Need-returns Inv-loop μ-loop
-returns c = so-closed _ _ _ _ _ (c .before .before .before .loop .inv .2) (c .before .before .before .loop .inv .3) (sym (c .before .is-closed .ensures) ∙ c .if1 .taken)
+returns c =
+    let at-closed = c .before in
+    let inv = at-closed .before .before .loop .inv in
+    so-closed _ _ _ _ _ (inv .2) (inv .3) (sym (at-closed .is-closed .ensures) ∙ c .if1 .taken)
 
 room-requires : tie.Need-room-requires Inv-loop μ-loop
 room-requires c κs = search needs
@@ -44,7 +47,15 @@ next-requires : tie.Need-next-requires Inv-loop μ-loop
 next-requires c κs = c .before .before .before .before .before .loop-test .taken
 
 told-of-requires : tie.Need-told-of-requires Inv-loop μ-loop
-told-of-requires c κs = samples-there (readerWith (c .before .before .before .before .before .before .before .before .before .before .before .before .loop .gatherer) (c .before .before .before .before .before .before .before .before .before .before .before .before .loop .desk)) _ _ (c .before .before .before .before .before .before .before .before .before .before .before .before .loop .out) (sym (c .before .before .before .before .before .before .before .before .before .before .is-closed .ensures) ∙ c .before .before .before .before .before .before .before .before .before .if1 .left) (c .before .before .before .before .before .before .before .before .before .before .before .loop-test .taken) (c .before .before .before .before .before .before .room .ensures) (c .before .before .before .before .before .next .ensures)
+told-of-requires c κs =
+    let at-next = c .before .before .before .before .before in
+    let at-room = at-next .before in
+    let at-if = at-room .before .before .before in
+    let at-closed = at-if .before in
+    let at-test = at-closed .before in
+    let loop = at-test .before .loop in
+    samples-there (readerWith (loop .gatherer) (loop .desk)) _ _ (loop .out) (sym (at-closed .is-closed .ensures) ∙ at-if .if1 .left)
+    (at-test .loop-test .taken) (at-room .room .ensures) (at-next .next .ensures)
 
 length-of-requires : tie.Need-length-of-requires Inv-loop μ-loop
 length-of-requires c κs = search needs
@@ -54,45 +65,121 @@ after-requires c κs = search needs
 
 add-i : tie.Need-add-i Inv-loop μ-loop
 add-i c =
-    let enough = subst (λ (l : List ℕ). bufferLength ≤ length l) (sym (c .before .before .before .before .before .before .before .before .before .before .before .before .before .before .before .before .before .before .before .loop .inv .2)) (c .before .before .before .before .before .before .before .before .before .before .before .before .before .before .before .before .before .before .before .loop .inv .1) in
-    let moves = one-step (readerWith (c .before .before .before .before .before .before .before .before .before .before .before .before .before .before .before .before .before .before .before .loop .gatherer) (c .before .before .before .before .before .before .before .before .before .before .before .before .before .before .before .before .before .before .before .loop .desk)) _ _ (c .before .before .before .before .before .before .before .before .before .before .before .before .before .before .before .before .before .before .before .loop .out) (sym (c .before .before .before .before .before .before .before .before .before .before .before .before .before .before .before .before .before .is-closed .ensures) ∙ c .before .before .before .before .before .before .before .before .before .before .before .before .before .before .before .before .if1 .left) (c .before .before .before .before .before .before .before .before .before .before .before .before .before .before .before .before .before .before .loop-test .taken) (c .before .before .before .before .before .before .before .before .before .before .before .before .before .room .ensures) (c .before .before .before .before .before .before .before .before .before .before .before .before .next .ensures)
-    enough (c .before .before .before .before .before .before .told-of .ensures) (c .before .before .before .length-of .ensures) (c .before .before .after .ensures) in
-    omega (arith, moves .within, c .before .before .before .before .before .before .before .before .before .before .before .before .before .before .before .before .before .before .before .before .before .before .good)
+    let at-after = c .before .before in
+    let at-length-of = at-after .before in
+    let at-told-of = at-length-of .before .before .before in
+    let at-next = at-told-of .before .before .before .before .before .before in
+    let at-room = at-next .before in
+    let at-if = at-room .before .before .before in
+    let at-closed = at-if .before in
+    let at-test = at-closed .before in
+    let at-loop = at-test .before in
+    let loop = at-loop .loop in
+    let inv = loop .inv in
+    let enough = subst (λ (l : List ℕ). bufferLength ≤ length l) (sym (inv .2)) (inv .1) in
+    let opened = sym (at-closed .is-closed .ensures) ∙ at-if .if1 .left in
+    let moves =
+    one-step (readerWith (loop .gatherer) (loop .desk)) _ _ (loop .out) opened (at-test .loop-test .taken) (at-room .room .ensures)
+    (at-next .next .ensures) enough (at-told-of .told-of .ensures) (at-length-of .length-of .ensures) (at-after .after .ensures) in
+    omega (arith, moves .within, at-loop .before .before .before .good)
 
 same-length-4 : tie.Need-same-length-4 Inv-loop μ-loop
-same-length-4 c = c .before .before .before .before .before .before .before .before .before .before .before .before .before .next .ensures .setpoints ∙ c .before .before .before .before .before .before .before .before .before .before .before .before .before .before .before .before .before .before .before .before .loop .inv .4
+same-length-4 c =
+    let at-told-of = c .before .before .before .before .before .before .before in
+    let at-next = at-told-of .before .before .before .before .before .before in
+    let at-loop = at-next .before .before .before .before .before .before .before in
+    at-next .next .ensures .setpoints ∙ at-loop .loop .inv .4
 
 same-length-5 : tie.Need-same-length-5 Inv-loop μ-loop
-same-length-5 c = c .before .before .before .before .before .before .before .before .before .before .before .before .before .next .ensures .actuals ∙ c .before .before .before .before .before .before .before .before .before .before .before .before .before .before .before .before .before .before .before .before .loop .inv .5
+same-length-5 c =
+    let at-told-of = c .before .before .before .before .before .before .before in
+    let at-next = at-told-of .before .before .before .before .before .before in
+    let at-loop = at-next .before .before .before .before .before .before .before in
+    at-next .next .ensures .actuals ∙ at-loop .loop .inv .5
 
 same-length-6 : tie.Need-same-length-6 Inv-loop μ-loop
 same-length-6 c =
-    let enough = subst (λ (l : List ℕ). bufferLength ≤ length l) (sym (c .before .before .before .before .before .before .before .before .before .before .before .before .before .before .before .before .before .before .before .before .loop .inv .2)) (c .before .before .before .before .before .before .before .before .before .before .before .before .before .before .before .before .before .before .before .before .loop .inv .1) in
-    let moves = one-step (readerWith (c .before .before .before .before .before .before .before .before .before .before .before .before .before .before .before .before .before .before .before .before .loop .gatherer) (c .before .before .before .before .before .before .before .before .before .before .before .before .before .before .before .before .before .before .before .before .loop .desk)) _ _ (c .before .before .before .before .before .before .before .before .before .before .before .before .before .before .before .before .before .before .before .before .loop .out) (sym (c .before .before .before .before .before .before .before .before .before .before .before .before .before .before .before .before .before .before .is-closed .ensures) ∙ c .before .before .before .before .before .before .before .before .before .before .before .before .before .before .before .before .before .if1 .left) (c .before .before .before .before .before .before .before .before .before .before .before .before .before .before .before .before .before .before .before .loop-test .taken) (c .before .before .before .before .before .before .before .before .before .before .before .before .before .before .room .ensures) (c .before .before .before .before .before .before .before .before .before .before .before .before .before .next .ensures)
-    enough (c .before .before .before .before .before .before .before .told-of .ensures) (c .before .before .before .before .length-of .ensures) (c .before .before .before .after .ensures) in
-    moves-length enough moves ∙ ap length (c .before .before .before .before .before .before .before .before .before .before .before .before .before .before .before .before .before .before .before .before .loop .inv .2)
+    let at-after = c .before .before .before in
+    let at-length-of = at-after .before in
+    let at-told-of = at-length-of .before .before .before in
+    let at-next = at-told-of .before .before .before .before .before .before in
+    let at-room = at-next .before in
+    let at-if = at-room .before .before .before in
+    let at-closed = at-if .before in
+    let at-test = at-closed .before in
+    let at-loop = at-test .before in
+    let loop = at-loop .loop in
+    let inv = loop .inv in
+    let enough = subst (λ (l : List ℕ). bufferLength ≤ length l) (sym (inv .2)) (inv .1) in
+    let opened = sym (at-closed .is-closed .ensures) ∙ at-if .if1 .left in
+    let moves =
+    one-step (readerWith (loop .gatherer) (loop .desk)) _ _ (loop .out) opened (at-test .loop-test .taken) (at-room .room .ensures)
+    (at-next .next .ensures) enough (at-told-of .told-of .ensures) (at-length-of .length-of .ensures) (at-after .after .ensures) in
+    moves-length enough moves ∙ ap length (inv .2)
 
 returns-2 : tie.Need-returns-2 Inv-loop μ-loop
 returns-2 c =
-    let enough = subst (λ (l : List ℕ). bufferLength ≤ length l) (sym (c .before .before .before .before .before .before .before .before .before .before .before .before .before .before .before .before .before .before .before .before .loop .inv .2)) (c .before .before .before .before .before .before .before .before .before .before .before .before .before .before .before .before .before .before .before .before .loop .inv .1) in
-    let moves = one-step (readerWith (c .before .before .before .before .before .before .before .before .before .before .before .before .before .before .before .before .before .before .before .before .loop .gatherer) (c .before .before .before .before .before .before .before .before .before .before .before .before .before .before .before .before .before .before .before .before .loop .desk)) _ _ (c .before .before .before .before .before .before .before .before .before .before .before .before .before .before .before .before .before .before .before .before .loop .out) (sym (c .before .before .before .before .before .before .before .before .before .before .before .before .before .before .before .before .before .before .is-closed .ensures) ∙ c .before .before .before .before .before .before .before .before .before .before .before .before .before .before .before .before .before .if1 .left) (c .before .before .before .before .before .before .before .before .before .before .before .before .before .before .before .before .before .before .before .loop-test .taken) (c .before .before .before .before .before .before .before .before .before .before .before .before .before .before .room .ensures) (c .before .before .before .before .before .before .before .before .before .before .before .before .before .next .ensures)
-    enough (c .before .before .before .before .before .before .before .told-of .ensures) (c .before .before .before .before .length-of .ensures) (c .before .before .before .after .ensures) in
-    so-told (readerWith (c .before .before .before .before .before .before .before .before .before .before .before .before .before .before .before .before .before .before .before .before .before .before .before .args .first) (c .before .before .before .before .before .before .before .before .before .before .before .before .before .before .before .before .before .before .before .before .before .before .before .args .opened)) (c .before .before .before .before .before .before .before .before .before .before .before .before .before .before .before .before .before .before .before .before .loop .inv .3) (other-out (c .before .before .before .before .before .before .before .before .before .before .before .before .before .before .before .before .before .before .before .before .loop .inv .2) moves) (c .if2 .taken)
+    let at-after = c .before .before .before in
+    let at-length-of = at-after .before in
+    let at-told-of = at-length-of .before .before .before in
+    let at-next = at-told-of .before .before .before .before .before .before in
+    let at-room = at-next .before in
+    let at-if = at-room .before .before .before in
+    let at-closed = at-if .before in
+    let at-test = at-closed .before in
+    let at-loop = at-test .before in
+    let loop = at-loop .loop in
+    let inv = loop .inv in
+    let enough = subst (λ (l : List ℕ). bufferLength ≤ length l) (sym (inv .2)) (inv .1) in
+    let opened = sym (at-closed .is-closed .ensures) ∙ at-if .if1 .left in
+    let moves =
+    one-step (readerWith (loop .gatherer) (loop .desk)) _ _ (loop .out) opened (at-test .loop-test .taken) (at-room .room .ensures)
+    (at-next .next .ensures) enough (at-told-of .told-of .ensures) (at-length-of .length-of .ensures) (at-after .after .ensures) in
+    let start = at-loop .before .before .before in
+    so-told (readerWith (start .args .first) (start .args .opened)) (inv .3) (other-out (inv .2) moves) (c .if2 .taken)
 
 loop-less : tie.Need-loop-less Inv-loop μ-loop
 loop-less c =
-    let enough = subst (λ (l : List ℕ). bufferLength ≤ length l) (sym (c .before .before .before .before .before .before .before .before .before .before .before .before .before .before .before .before .before .before .before .before .loop .inv .2)) (c .before .before .before .before .before .before .before .before .before .before .before .before .before .before .before .before .before .before .before .before .loop .inv .1) in
-    let moves = one-step (readerWith (c .before .before .before .before .before .before .before .before .before .before .before .before .before .before .before .before .before .before .before .before .loop .gatherer) (c .before .before .before .before .before .before .before .before .before .before .before .before .before .before .before .before .before .before .before .before .loop .desk)) _ _ (c .before .before .before .before .before .before .before .before .before .before .before .before .before .before .before .before .before .before .before .before .loop .out) (sym (c .before .before .before .before .before .before .before .before .before .before .before .before .before .before .before .before .before .before .is-closed .ensures) ∙ c .before .before .before .before .before .before .before .before .before .before .before .before .before .before .before .before .before .if1 .left) (c .before .before .before .before .before .before .before .before .before .before .before .before .before .before .before .before .before .before .before .loop-test .taken) (c .before .before .before .before .before .before .before .before .before .before .before .before .before .before .room .ensures) (c .before .before .before .before .before .before .before .before .before .before .before .before .before .next .ensures)
-    enough (c .before .before .before .before .before .before .before .told-of .ensures) (c .before .before .before .before .length-of .ensures) (c .before .before .before .after .ensures) in
+    let at-after = c .before .before .before in
+    let at-length-of = at-after .before in
+    let at-told-of = at-length-of .before .before .before in
+    let at-next = at-told-of .before .before .before .before .before .before in
+    let at-room = at-next .before in
+    let at-if = at-room .before .before .before in
+    let at-closed = at-if .before in
+    let at-test = at-closed .before in
+    let at-loop = at-test .before in
+    let loop = at-loop .loop in
+    let inv = loop .inv in
+    let enough = subst (λ (l : List ℕ). bufferLength ≤ length l) (sym (inv .2)) (inv .1) in
+    let opened = sym (at-closed .is-closed .ensures) ∙ at-if .if1 .left in
+    let moves =
+    one-step (readerWith (loop .gatherer) (loop .desk)) _ _ (loop .out) opened (at-test .loop-test .taken) (at-room .room .ensures)
+    (at-next .next .ensures) enough (at-told-of .told-of .ensures) (at-length-of .length-of .ensures) (at-after .after .ensures) in
     omega (arith, moves .some, moves .within)
 
 loop-again : tie.Need-loop-again Inv-loop μ-loop
 loop-again c =
-    let enough = subst (λ (l : List ℕ). bufferLength ≤ length l) (sym (c .before .before .before .before .before .before .before .before .before .before .before .before .before .before .before .before .before .before .before .before .loop .inv .2)) (c .before .before .before .before .before .before .before .before .before .before .before .before .before .before .before .before .before .before .before .before .loop .inv .1) in
-    let moves = one-step (readerWith (c .before .before .before .before .before .before .before .before .before .before .before .before .before .before .before .before .before .before .before .before .loop .gatherer) (c .before .before .before .before .before .before .before .before .before .before .before .before .before .before .before .before .before .before .before .before .loop .desk)) _ _ (c .before .before .before .before .before .before .before .before .before .before .before .before .before .before .before .before .before .before .before .before .loop .out) (sym (c .before .before .before .before .before .before .before .before .before .before .before .before .before .before .before .before .before .before .is-closed .ensures) ∙ c .before .before .before .before .before .before .before .before .before .before .before .before .before .before .before .before .before .if1 .left) (c .before .before .before .before .before .before .before .before .before .before .before .before .before .before .before .before .before .before .before .loop-test .taken) (c .before .before .before .before .before .before .before .before .before .before .before .before .before .before .room .ensures) (c .before .before .before .before .before .before .before .before .before .before .before .before .before .next .ensures)
-    enough (c .before .before .before .before .before .before .before .told-of .ensures) (c .before .before .before .before .length-of .ensures) (c .before .before .before .after .ensures) in
-    let w = so-on (readerWith (c .before .before .before .before .before .before .before .before .before .before .before .before .before .before .before .before .before .before .before .before .before .before .before .args .first) (c .before .before .before .before .before .before .before .before .before .before .before .before .before .before .before .before .before .before .before .before .before .before .before .args .opened)) (c .before .before .before .before .before .before .before .before .before .before .before .before .before .before .before .before .before .before .before .before .loop .inv .3) (other-out (c .before .before .before .before .before .before .before .before .before .before .before .before .before .before .before .before .before .before .before .before .loop .inv .2) moves) (omega arith) in
-    (omega (arith, moves .within), c .before .before .before .before .before .before .before .before .before .before .before .before .before .before .before .before .before .before .before .before .loop .inv .1, w .1, w .0, c .before .before .before .before .before .before .before .before .before .before .before .before .before .next .ensures .setpoints ∙ c .before .before .before .before .before .before .before .before .before .before .before .before .before .before .before .before .before .before .before .before .loop .inv .4, c .before .before .before .before .before .before .before .before .before .before .before .before .before .next .ensures .actuals ∙ c .before .before .before .before .before .before .before .before .before .before .before .before .before .before .before .before .before .before .before .before .loop .inv .5)
+    let at-after = c .before .before .before in
+    let at-length-of = at-after .before in
+    let at-told-of = at-length-of .before .before .before in
+    let at-next = at-told-of .before .before .before .before .before .before in
+    let at-room = at-next .before in
+    let at-if = at-room .before .before .before in
+    let at-closed = at-if .before in
+    let at-test = at-closed .before in
+    let at-loop = at-test .before in
+    let loop = at-loop .loop in
+    let inv = loop .inv in
+    let enough = subst (λ (l : List ℕ). bufferLength ≤ length l) (sym (inv .2)) (inv .1) in
+    let opened = sym (at-closed .is-closed .ensures) ∙ at-if .if1 .left in
+    let moves =
+    one-step (readerWith (loop .gatherer) (loop .desk)) _ _ (loop .out) opened (at-test .loop-test .taken) (at-room .room .ensures)
+    (at-next .next .ensures) enough (at-told-of .told-of .ensures) (at-length-of .length-of .ensures) (at-after .after .ensures) in
+    let start = at-loop .before .before .before in
+    let so = so-on (readerWith (start .args .first) (start .args .opened)) (inv .3) (other-out (inv .2) moves) (omega arith) in
+    let found = at-next .next .ensures in
+    (omega (arith, moves .within), inv .1, so .1, so .0, found .setpoints ∙ inv .4, found .actuals ∙ inv .5)
 
 same-length-7 : tie.Need-same-length-7 Inv-loop μ-loop
 same-length-7 c = c .before .loop .inv .4
@@ -104,7 +191,9 @@ same-length-9 : tie.Need-same-length-9 Inv-loop μ-loop
 same-length-9 c = ap length (c .before .loop .inv .2)
 
 returns-3 : tie.Need-returns-3 Inv-loop μ-loop
-returns-3 c = so-ended _ _ _ _ _ (c .before .loop .inv .2) (c .before .loop .inv .3) (c .loop-test .left)
+returns-3 c =
+    let inv = c .before .loop .inv in
+    so-ended _ _ _ _ _ (inv .2) (inv .3) (c .loop-test .left)
 
 pub read-on-spec : {M : Type 1} → statement M
 read-on-spec =

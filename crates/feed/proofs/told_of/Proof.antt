@@ -20,7 +20,11 @@ same-length : tie.Need-same-length
 same-length c = search needs
 
 returns : tie.Need-returns
-returns c = as-turn (turn-of-stretch _ (c .before .before .before .before .before .before .before .before .args .found) _ (c .before .before .before .before .before .before .if1 .taken)) (c .before .before .samples .ensures)
+returns c =
+    let at-samples = c .before .before in
+    let at-if = at-samples .before .before .before .before in
+    let start = at-if .before .before in
+    as-turn (turn-of-stretch _ (start .args .found) _ (at-if .if1 .taken)) (at-samples .samples .ensures)
 
 served-requires : tie.Need-served-requires
 served-requires c κs = search needs
@@ -29,7 +33,12 @@ same-length-2 : tie.Need-same-length-2
 same-length-2 c = search needs
 
 returns-2 : tie.Need-returns-2
-returns-2 c = as-turn (turn-of-line _ (c .before .before .before .before .before .before .before .before .args .found) _ (c .before .before .before .before .before .before .if1 .left) (c .before .before .before .before .before .if2 .taken)) (c .before .before .served .ensures)
+returns-2 c =
+    let at-served = c .before .before in
+    let at-line = at-served .before .before .before in
+    let at-if = at-line .before in
+    let start = at-if .before .before in
+    as-turn (turn-of-line _ (start .args .found) _ (at-if .if1 .left) (at-line .if2 .taken)) (at-served .served .ensures)
 
 returns-3 : tie.Need-returns-3
 returns-3 c = as-turn (no-turn _ (c .before .before .before .args .found) _ (c .before .if1 .left) (c .if2 .left)) (told-nothing (c .before .before .before .args .desk) _)
