@@ -278,7 +278,8 @@ module _ (reader : Reader) (block : List ℕ) (at : ℕ) (out : List ℕ) (h : a
       pub stretch-step : Moves reader block at out (record { gatherer = g; desk = told .desk; used = read .bytes; printed = lengthOf (told .printed) }) out′
       stretch-step = by-samples (frontSamples most lines-there) refl
         where
-          by-samples : (ss : List Sample) → frontSamples most lines-there ≡ ss → Moves reader block at out (record { gatherer = g; desk = told .desk; used = read .bytes; printed = lengthOf (told .printed) }) out′
+          by-samples : (ss : List Sample) → frontSamples most lines-there ≡ ss
+              → Moves reader block at out (record { gatherer = g; desk = told .desk; used = read .bytes; printed = lengthOf (told .printed) }) out′
           by-samples [] e = absurd (omega (arith, reads .samples ∙ ap length e))
           by-samples (s ∷ ss) e = stretch s ss e
 
@@ -289,7 +290,8 @@ pub found-line : {g : Gatherer} {block : List ℕ} {at room : ℕ} {sp ac sp′ 
 found-line q s a = record { line = λ e. q; stretch = λ p. absurd (omega (arith, p, ap (λ (f : Found). f .samples) q)); setpoints = s; actuals = a }
 
 -- nothing but places of the arrays was written
-pub same-arrays : {lines : List (List ℕ)} {filled most : ℕ} {sp ac sp′ ac′ : List ℤ} {read : Stretch} → series.Reads lines filled most sp ac sp′ ac′ read → (length sp′ ≡ length sp) × (length ac′ ≡ length ac)
+pub same-arrays : {lines : List (List ℕ)} {filled most : ℕ} {sp ac sp′ ac′ : List ℤ} {read : Stretch} → series.Reads lines filled most sp ac sp′ ac′ read → (length sp′ ≡ length sp)
+    × (length ac′ ≡ length ac)
 same-arrays {lines} {filled} {most} {sp} {ac} reads = (
   ap length (reads .setpoints) ∙ length-sets sp filled (setpointsOf (frontSamples most lines)),
   ap length (reads .actuals) ∙ length-sets ac filled (actualsOf (frontSamples most lines)),

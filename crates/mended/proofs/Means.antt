@@ -260,7 +260,8 @@ module _ (t : Grid) (rows : List Recorded) (row : Recorded) where
   dropped-refusal sorted s g =
       ap (λ (r : Refusal). powers (cond (accepted r) (cond later SecondsOutOfOrder None) r)) s
       ∙ ap (λ (b : Bool). powers (cond b SecondsOutOfOrder None)) later-is
-      ∙ sym (grounds-are ∙ ap (λ (b : Bool). powers (cond (b && isNone (lastOf goods) && not (eqb (up (row .second)) 0)) NoFirstSample (cond (b && longHole t rows place) HoleTooLong (cond (isEarlier (row .second) (lastOf rows)) SecondsOutOfOrder None)))) g)
+      ∙ sym (grounds-are ∙ ap (λ (b : Bool). powers (cond (b && isNone (lastOf goods) && not (eqb (up (row .second)) 0)) NoFirstSample
+      (cond (b && longHole t rows place) HoleTooLong (cond (isEarlier (row .second) (lastOf rows)) SecondsOutOfOrder None)))) g)
 
   -- the rest of the grounds of a line that is good
   abbrev goodRest : Bool → Bool → Bool → Refusal

@@ -28,7 +28,8 @@ use Rattle.samples.specs.Recorded.{recordedBy, firstRecorded}
 use Rattle.samples.specs.declared.recorded.RecordedLine.{RecordedLine}
 use Rattle.samples.specs.declared.recorded.FirstRecorded.{FirstRecorded}
 use Rattle.samples.specs.declared.recorded.FirstRecorded.the-variants as R
-use Rattle.samples.proofs.Joined.{Shorts, no-field, a-field, short-number, a-letter, joined, spread, joined-fields, joined-few, joined-first, one-line, line-of, by-first, by-second, leads, letter}
+use Rattle.samples.proofs.Joined.{Shorts, no-field, a-field, short-number, a-letter, joined, spread, joined-fields}
+use Rattle.samples.proofs.Joined.{joined-few, joined-first, one-line, line-of, by-first, by-second, leads, letter}
 
 abbrev pub recordedIn : List ℕ → List ℕ → List ℕ → List ℕ
 recordedIn c a b = joined (71 ∷ []) (c ∷ (a ∷ (b ∷ [])))

@@ -123,7 +123,8 @@ open-end s at n = rw (ne-eqb _ _ n)
 
 pub past-end : (s : List ℕ) (at : ℕ) → length s ≤ at → R.Other ≡ recordedAt s at
 unfolding recordedAt firstRecorded
-past-end s at h = sym (ap (λ (t : List ℕ). cond (eqb (getD s (length s - 1) 0) 10) (firstRecorded at (linesOf t)) R.Other) (drop-of-length-le s h) ∙ rw no-lines (neither (eqb (getD s (length s - 1) 0) 10)))
+past-end s at h = sym (ap (λ (t : List ℕ). cond (eqb (getD s (length s - 1) 0) 10) (firstRecorded at (linesOf t)) R.Other) (drop-of-length-le s h) ∙ rw no-lines
+    (neither (eqb (getD s (length s - 1) 0) 10)))
   where
     neither : (b : Bool) → cond b R.Other R.Other ≡ R.Other
     neither true = refl

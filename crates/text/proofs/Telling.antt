@@ -18,7 +18,8 @@ use Rattle.lines.specs.Turns.{quiet}
 use Rattle.reading.specs.Line.{lineOf}
 use Rattle.reading.specs.declared.Line.{Line}
 use Rattle.reading.specs.declared.Line.the-variants as L
-use Rattle.text.specs.Desk.{Turn, Tells, deskAt, refusedTurn, openTurn, answeredTurn, sampleTurn, endTurn, unless, takenText, quarterTurn, firstTurn, nextTurn, turnAt, lineTurn, closedAt, finishAt, finishTurn, answerOf}
+use Rattle.text.specs.Desk.{Turn, Tells, deskAt, refusedTurn, openTurn, answeredTurn, sampleTurn, endTurn, unless}
+use Rattle.text.specs.Desk.{takenText, quarterTurn, firstTurn, nextTurn, turnAt, lineTurn, closedAt, finishAt, finishTurn, answerOf}
 use Rattle.text.specs.Serving.{Turned, toldBy, early, late, misplacedAt, servedTurn, askedOf, followedTurn, placedTurn}
 use Rattle.settlement.specs.declared.run.Run.{Run}
 use Rattle.settlement.specs.Run.{takenOf}

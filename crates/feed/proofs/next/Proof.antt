@@ -40,7 +40,12 @@ same-length-4 : tie.Need-same-length-4
 same-length-4 c = search needs
 
 returns-3 : tie.Need-returns-3
-returns-3 c = found-stretch (start-of (c .before .before .before .before .before .before .before .before .before .at-start .ensures) (not-false _ (c .before .before .before .before .before .before .before .before .if1 .left))) (c .before .before .before .before .before .read-samples .ensures) (c .before .if2 .left) (c .past .ensures)
+returns-3 c =
+    let at-if2 = c .before in
+    let at-read-samples = at-if2 .before .before .before .before in
+    let at-if1 = at-read-samples .before .before .before in
+    let at-at-start = at-if1 .before in
+    found-stretch (start-of (at-at-start .at-start .ensures) (not-false _ (at-if1 .if1 .left))) (at-read-samples .read-samples .ensures) (at-if2 .if2 .left) (c .past .ensures)
 
 pub next-spec : {M : Type 1} → statement M
 next-spec =

@@ -50,7 +50,9 @@ loop-less : tie.Need-loop-less Inv-loop μ-loop
 loop-less c = omega arith
 
 loop-again : tie.Need-loop-again Inv-loop μ-loop
-loop-again c = (search (needs, c .before .before .before .before .before .before .before .before .before .before .before .loop .inv), search (needs, c .before .before .before .before .before .before .before .before .before .before .before .loop .inv))
+loop-again c =
+    let at-loop = c .before .before .before .before .before .before .before .before .before .before .before in
+    (search (needs, at-loop .loop .inv), search (needs, at-loop .loop .inv))
 
 returns-3 : tie.Need-returns-3 Inv-loop μ-loop
 returns-3 c = tt

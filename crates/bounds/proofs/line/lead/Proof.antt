@@ -49,7 +49,8 @@ lead-with-requires c κs =
     omega (arith, at-blank .before .least .ensures, at-blank .before .before .good)
 
 returns : tie.Need-returns
-returns c = let at-lead = c .before .before .before .before .before in rw (← at-lead .before .before .before .before .before .before .before .before .before .before .before .before .least .ensures) (at-lead .lead-with .ensures)
+returns c = let at-lead = c .before .before .before .before .before in rw
+    (← at-lead .before .before .before .before .before .before .before .before .before .before .before .before .least .ensures) (at-lead .lead-with .ensures)
 
 pub lead-spec : {M : Type 1} → statement M
 lead-spec =

@@ -46,9 +46,14 @@ mul-t6 c = record { fits = omega (arith, mul-le-mul (hundred c) (few c)) }
 returns : tie.Need-returns
 unfolding gridOf
 returns c =
-    let h = c .before .before .before .before .before .before .before .args .header in
-    let i = c .before .before .before .before .interval-of .ensures ∙ ap intervalOf (c .before .before .before .before .before .above-zero .ensures ∙ ap up (back32 {z = h .interval} (c .before .before .before .before .before .before .struct-told .given .1 .0 .1))) in
-    let w = c .before .before .before .windows .ensures ∙ ap windowsOf i in
+    let at-windows = c .before .before .before in
+    let at-interval-of = at-windows .before in
+    let at-above-zero = at-interval-of .before in
+    let at-struct-told = at-above-zero .before in
+    let start = at-struct-told .before in
+    let h = start .args .header in
+    let i = at-interval-of .interval-of .ensures ∙ ap intervalOf (at-above-zero .above-zero .ensures ∙ ap up (back32 {z = h .interval} (at-struct-told .struct-told .given .1 .0 .1))) in
+    let w = at-windows .windows .ensures ∙ ap windowsOf i in
     let q = told-quarters c in
     λ k. record { interval = i k; places = q k * w k .samples }
 

@@ -29,7 +29,11 @@ place-of-requires : tie.Need-place-of-requires
 place-of-requires c κs = search needs
 
 returns-2 : tie.Need-returns-2
-returns-2 c = sym (past-end (c .before .before .before .before .before .args .grid) (c .before .before .before .before .before .args .second) (rw (toZ-ofZ (c .before .before .before .before .before .fits .second)) at (c .before .before .before .before .if1 .left)) (ap (leb (c .before .before .before .before .before .args .grid .places)) (sym (told-place (c .before .before))) ∙ le-leb _ _ (c .if2 .taken)))
+returns-2 c =
+    let at-if1 = c .before .before .before .before in
+    let start = at-if1 .before in
+    sym (past-end (start .args .grid) (start .args .second) (rw (toZ-ofZ (start .fits .second)) at (at-if1 .if1 .left))
+    (ap (leb (start .args .grid .places)) (sym (told-place (c .before .before))) ∙ le-leb _ _ (c .if2 .taken)))
 
 seconds-of-requires : tie.Need-seconds-of-requires
 seconds-of-requires c κs = search needs
@@ -39,9 +43,13 @@ cast-result c = search needs
 
 returns-3 : tie.Need-returns-3
 returns-3 c =
-    let t = c .before .before .before .before .before .before .args .grid in
-    ap not (λ k. eqb ((c .seconds-of .ensures ∙ ap (λ (p : ℕ). p * secondsOf t) (told-place (c .before .before .before))) k) (told-second (c .before .before .before .before) k))
-    ∙ sym (by-multiple t (c .before .before .before .before .before .before .args .second) (rw (toZ-ofZ (c .before .before .before .before .before .before .fits .second)) at (c .before .before .before .before .before .if1 .left)) (ap (leb (t .places)) (sym (told-place (c .before .before .before))) ∙ lt-leb _ _ (c .before .if2 .left)))
+    let at-if2 = c .before in
+    let at-if1 = at-if2 .before .before .before .before in
+    let start = at-if1 .before in
+    let t = start .args .grid in
+    ap not (λ k. eqb ((c .seconds-of .ensures ∙ ap (λ (p : ℕ). p * secondsOf t) (told-place (at-if2 .before .before))) k) (told-second (at-if2 .before .before .before) k))
+    ∙ sym (by-multiple t (start .args .second) (rw (toZ-ofZ (start .fits .second)) at (at-if1 .if1 .left))
+    (ap (leb (t .places)) (sym (told-place (at-if2 .before .before))) ∙ lt-leb _ _ (at-if2 .if2 .left)))
 
 pub is-outside-spec : {M : Type 1} → statement M
 is-outside-spec =

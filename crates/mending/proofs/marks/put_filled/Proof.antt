@@ -38,8 +38,11 @@ same-length c = search needs
 returns : tie.Need-returns
 unfolding itemText
 returns c =
-    let f = fits-second (c .before .before .before .before .before .before .before .before) in
-    both (rw (toZ-ofZ f, c .before .before .before .before .before .before .before .before .seconds-of .ensures) at (c .before .before .before .before .before .before .put-mark .ensures)) (c .before .before .put-sample .ensures)
+    let at-put-sample = c .before .before in
+    let at-put-mark = at-put-sample .before .before .before .before in
+    let at-seconds-of = at-put-mark .before .before in
+    let f = fits-second (at-seconds-of) in
+    both (rw (toZ-ofZ f, at-seconds-of .seconds-of .ensures) at (at-put-mark .put-mark .ensures)) (at-put-sample .put-sample .ensures)
 
 pub put-filled-spec : {M : Type 1} → statement M
 put-filled-spec =

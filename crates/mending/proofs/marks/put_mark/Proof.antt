@@ -25,7 +25,14 @@ same-length c = search needs
 
 returns : tie.Need-returns
 unfolding markText
-returns c = ended (further (further (begun (c .before .before .before .before .before .before .before .before .before .before .before .before .before .before .put .ensures)) (rw (toZ-ofZ (c .before .before .before .before .before .before .before .before .before .before .before .before .before .before .before .before .before .fits .second)) at (c .before .before .before .before .before .before .before .before .before .before .put-signed .ensures))) (c .before .before .before .before .before .before .put-letter .ensures)) (c .before .before .put-line-end .ensures)
+returns c =
+    let at-put-line-end = c .before .before in
+    let at-put-letter = at-put-line-end .before .before .before .before in
+    let at-put-signed = at-put-letter .before .before .before .before in
+    let at-put = at-put-signed .before .before .before .before in
+    let start = at-put .before .before .before in
+    ended (further (further (begun (at-put .put .ensures)) (rw (toZ-ofZ (start .fits .second)) at (at-put-signed .put-signed .ensures))) (at-put-letter .put-letter .ensures))
+    (at-put-line-end .put-line-end .ensures)
 
 pub put-mark-spec : {M : Type 1} → statement M
 put-mark-spec =

@@ -28,13 +28,22 @@ loop-less : tie.Need-loop-less Inv-loop μ-loop
 loop-less c = omega (arith, c .before .before .before .before .loop-test .taken)
 
 loop-again : tie.Need-loop-again Inv-loop μ-loop
-loop-again c = one-put (c .before .before .before .before .before .before .before .args .grid) (c .before .before .before .before .before .before .before .args .sample) (c .before .before .before .before .before .before .before .args .from) (c .before .before .before .before .before .before .before .args .until) (c .before .before .before .before .before .loop .place) (c .before .before .before .before .loop-test .taken) (c .before .before .before .before .before .loop .inv) (c .before .before .put-filled .ensures)
+loop-again c =
+    let at-put-filled = c .before .before in
+    let at-loop-test = at-put-filled .before .before in
+    let at-loop = at-loop-test .before in
+    let start = at-loop .before .before in
+    one-put (start .args .grid) (start .args .sample) (start .args .from) (start .args .until) (at-loop .loop .place) (at-loop-test .loop-test .taken) (at-loop .loop .inv)
+    (at-put-filled .put-filled .ensures)
 
 same-length : tie.Need-same-length Inv-loop μ-loop
 same-length c = wrote-length (c .before .loop .inv .put .wrote)
 
 returns : tie.Need-returns Inv-loop μ-loop
-returns c = all-put (c .before .before .before .args .grid) (c .before .before .before .args .sample) (c .before .before .before .args .from) (c .before .before .before .args .until) (c .before .loop .place) (c .loop-test .left) (c .before .before .before .pre) (c .before .loop .inv)
+returns c =
+    let at-loop = c .before in
+    let start = at-loop .before .before in
+    all-put (start .args .grid) (start .args .sample) (start .args .from) (start .args .until) (at-loop .loop .place) (c .loop-test .left) (start .pre) (at-loop .loop .inv)
 
 pub put-missing-spec : {M : Type 1} → statement M
 put-missing-spec =

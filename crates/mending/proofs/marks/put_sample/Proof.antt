@@ -13,13 +13,17 @@ put-requires : tie.Need-put-requires
 put-requires c κs = search needs
 
 cast-put-signed : tie.Need-cast-put-signed
-cast-put-signed c = let f : SFits w32 (c .before .before .before .before .before .before .before .before .args .sample .setpoint) = search needs in rw (toZ-ofZ w32 (c .before .before .before .before .before .before .before .before .args .sample .setpoint) f) (wide f)
+cast-put-signed c =
+    let start = c .before .before .before .before .before .before .before .before in
+    let f : SFits w32 (start .args .sample .setpoint) = search needs in rw (toZ-ofZ w32 (start .args .sample .setpoint) f) (wide f)
 
 put-signed-requires : tie.Need-put-signed-requires
 put-signed-requires c κs = search needs
 
 cast-put-signed-2 : tie.Need-cast-put-signed-2
-cast-put-signed-2 c = let f : SFits w32 (c .before .before .before .before .before .before .before .before .before .before .before .before .before .before .args .sample .actual) = search needs in rw (toZ-ofZ w32 (c .before .before .before .before .before .before .before .before .before .before .before .before .before .before .args .sample .actual) f) (wide f)
+cast-put-signed-2 c =
+    let start = c .before .before .before .before .before .before .before .before .before .before .before .before .before .before in
+    let f : SFits w32 (start .args .sample .actual) = search needs in rw (toZ-ofZ w32 (start .args .sample .actual) f) (wide f)
 
 put-signed-requires-2 : tie.Need-put-signed-requires-2
 put-signed-requires-2 c κs = search needs

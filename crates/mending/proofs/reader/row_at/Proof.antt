@@ -47,8 +47,15 @@ same-length c = search needs
 
 returns-3 : tie.Need-returns-3
 returns-3 c =
-    let line = recorded-enters (c .before .before .before .before .before .before .before .before .before .before .before .before .before .before .before .before .before .before .pre .0) _ _ (omega (arith, c .before .before .before .before .before .before .before .before .before .before .before .before .before .before .before .before .before .before .pre .1 .1)) (sym (c .before .before .before .before .before .before .before .before .before .before .before .recorded-at .ensures) ∙ c .before .before .before .before .before .before .before .before .before .line .given .1) in
-    row-runs (c .before .before .before .before .before .before .before .before .before .before .before .before .before .before .before .before .before .before .pre .1 .0) (c .before .before .before .before .before .before .before .before .before .before .before .before .before .before .is-ready .ensures (not-false _ (c .before .before .before .before .before .before .before .before .before .before .before .before .before .if1 .left))) line refl (c .before .before .before .before .before .wrapping-add-u64 .ensures) (c .before .before .before .row .ensures)
+    let at-row = c .before .before .before in
+    let at-wrapping-add-u64 = at-row .before .before in
+    let at-line = at-wrapping-add-u64 .before .before .before .before in
+    let at-recorded-at = at-line .before .before in
+    let at-if1 = at-recorded-at .before .before in
+    let at-is-ready = at-if1 .before in
+    let start = at-is-ready .before .before .before .before in
+    let line = recorded-enters (start .pre .0) _ _ (omega (arith, start .pre .1 .1)) (sym (at-recorded-at .recorded-at .ensures) ∙ at-line .line .given .1) in
+    row-runs (start .pre .1 .0) (at-is-ready .is-ready .ensures (not-false _ (at-if1 .if1 .left))) line refl (at-wrapping-add-u64 .wrapping-add-u64 .ensures) (at-row .row .ensures)
 
 pub row-at-spec : {M : Type 1} → statement M
 row-at-spec =

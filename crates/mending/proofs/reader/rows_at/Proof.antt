@@ -25,7 +25,10 @@ returns : tie.Need-returns Inv-loop μ-loop
 returns c = runs-then (c .before .before .before .before .before .before .before .before .before .loop .inv) (c .before .before .before .before .before .row-at .ensures)
 
 loop-less : tie.Need-loop-less Inv-loop μ-loop
-loop-less c = omega (arith, c .before .before .before .before .before .row-at .ensures .up, c .before .before .before .before .before .row-at .ensures .far, c .if2 .left, c .before .before .before .before .before .before .before .if1 .taken)
+loop-less c =
+    let at-row-at = c .before .before .before .before .before in
+    let at-if1 = at-row-at .before .before in
+    omega (arith, at-row-at .row-at .ensures .up, at-row-at .row-at .ensures .far, c .if2 .left, at-if1 .if1 .taken)
 
 loop-again : tie.Need-loop-again Inv-loop μ-loop
 loop-again c = runs-then (c .before .before .before .before .before .before .before .before .before .loop .inv) (c .before .before .before .before .before .row-at .ensures)

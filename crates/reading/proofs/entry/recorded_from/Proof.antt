@@ -23,7 +23,13 @@ recorded-of-requires c κs = search needs
 
 returns-2 : tie.Need-returns-2
 unfolding recordedOf
-returns-2 c = rw (its-count _ (c .before .before .before .before .before .before .before .pre) _ _ (c .before .before .before .before .if1 .left), ← c .before .before .before .number-at .ensures, ← c .before .before .number-at2 .ensures, ← c .before .number-at3 .ensures) (c .recorded-of .ensures)
+returns-2 c =
+    let at-number-at3 = c .before in
+    let at-number-at2 = at-number-at3 .before in
+    let at-number-at = at-number-at2 .before in
+    let at-if1 = at-number-at .before in
+    let start = at-if1 .before .before .before in
+    rw (its-count _ (start .pre) _ _ (at-if1 .if1 .left), ← at-number-at .number-at .ensures, ← at-number-at2 .number-at2 .ensures, ← at-number-at3 .number-at3 .ensures) (c .recorded-of .ensures)
 
 pub recorded-from-spec : {M : Type 1} → statement M
 recorded-from-spec =

@@ -34,8 +34,19 @@ returns-3 : tie.Need-returns-3
 returns-3 c = search needs
 
 returns-4 : tie.Need-returns-4
-returns-4 c = rw (c .before .before .before .before .before .before .before .second .given .1, c .before .before .before .before .setpoint .given .1, c .before .actual .given .1)
-    (rw (toZ-ofZ {w = w32} (sfits-of (c .before .before .before .before .before .before .known-told .given .0 .1)), toZ-ofZ {w = w32} (sfits-of (c .before .before .before .known-told2 .given .0 .1)), toZ-ofZ {w = w32} (sfits-of (c .known-told3 .given .0 .1))))
+returns-4 c =
+    let at-actual = c .before in
+    let at-known-told2 = at-actual .before .before in
+    let at-setpoint = at-known-told2 .before in
+    let at-known-told = at-setpoint .before .before in
+    let at-second = at-known-told .before in
+    rw (at-second .second .given .1, at-setpoint .setpoint .given .1, at-actual .actual .given .1)
+    (rw (
+      toZ-ofZ {w = w32} (sfits-of (at-known-told .known-told .given .0 .1)),
+      toZ-ofZ {w = w32} (sfits-of (at-known-told2 .known-told2 .given .0 .1)),
+      toZ-ofZ {w = w32}
+          (sfits-of (c .known-told3 .given .0 .1)),
+    ))
 
 pub recorded-of-spec : {M : Type 1} → statement M
 recorded-of-spec =

@@ -100,7 +100,10 @@ loop-again : tie.Need-loop-again Inv-loop μ-loop
 loop-again c = turn (c .before) .again (c .wrapping-add-u64 .result) (c .wrapping-add-u64 .ensures)
 
 mul-t17 : tie.Need-mul-t17 Inv-loop μ-loop
-mul-t17 c = record { fits = omega (arith, c .before .loop .inv .storing .scanned .within, c .before .before .before .before .before .before .before .before .before .before .before .before .pre .0 .few) }
+mul-t17 c =
+    let at-loop = c .before in
+    let start = at-loop .before .before .before .before .before .before .before .before .before .before .before in
+    record { fits = omega (arith, at-loop .loop .inv .storing .scanned .within, start .pre .0 .few) }
 
 array-read-t34 : tie.Need-array-read-t34 Inv-loop μ-loop
 array-read-t34 c = omega (arith, c .before .loop .inv .storing .scanned .within, c .before .before .before .before .before .before .before .before .before .before .before .before .pre .0 .few)

@@ -21,10 +21,21 @@ same-length c = search needs
 
 returns : tie.Need-returns
 unfolding endTurn
-returns c = as-turn (refuses (c .before .before .before .before .before .number .ensures) (c .before .before .before .before .before .before .end-refusal .ensures) (c .before .before .before .before .before .before .before .before .args .self) (c .before .before .before .before .before .before .before .before .args .number) _ (c .before .before .before .before .if1 .taken)) (c .before .before .refused .ensures)
+returns c =
+    let at-refused = c .before .before in
+    let at-if1 = at-refused .before .before in
+    let at-number = at-if1 .before in
+    let at-end-refusal = at-number .before in
+    let start = at-end-refusal .before .before in
+    as-turn (refuses (at-number .number .ensures) (at-end-refusal .end-refusal .ensures) (start .args .self) (start .args .number) _ (at-if1 .if1 .taken)) (at-refused .refused .ensures)
 
 put-rest-requires : tie.Need-put-rest-requires
-put-rest-requires c κs = end-short (c .before .before .before .before .before .before .args .self) (none-refused (c .before .before .before .number .ensures) (c .before .before .before .before .end-refusal .ensures) (c .before .before .if1 .left))
+put-rest-requires c κs =
+    let at-if1 = c .before .before in
+    let at-number = at-if1 .before in
+    let at-end-refusal = at-number .before in
+    let start = at-end-refusal .before .before in
+    end-short (start .args .self) (none-refused (at-number .number .ensures) (at-end-refusal .end-refusal .ensures) (at-if1 .if1 .left))
 
 closed-requires : tie.Need-closed-requires
 closed-requires c κs = search needs
@@ -35,7 +46,13 @@ same-length-2 c = search needs
 returns-2 : tie.Need-returns-2
 unfolding endTurn
 returns-2 c =
-    as-turn (goes-on (c .before .before .before .before .before .before .before .number .ensures) (c .before .before .before .before .before .before .before .before .end-refusal .ensures) (c .before .before .before .before .before .before .before .before .before .before .args .self) (c .before .before .before .before .before .before .before .before .before .before .args .number) _ (c .before .before .before .before .before .before .if1 .left)) (printed _ (omega arith) (c .closed .ensures) (c .before .before .before .put-rest .ensures))
+    let at-put-rest = c .before .before .before in
+    let at-if1 = at-put-rest .before .before .before in
+    let at-number = at-if1 .before in
+    let at-end-refusal = at-number .before in
+    let start = at-end-refusal .before .before in
+    as-turn (goes-on (at-number .number .ensures) (at-end-refusal .end-refusal .ensures) (start .args .self) (start .args .number) _ (at-if1 .if1 .left))
+    (printed _ (omega arith) (c .closed .ensures) (at-put-rest .put-rest .ensures))
 
 pub end-spec : {M : Type 1} → statement M
 end-spec =

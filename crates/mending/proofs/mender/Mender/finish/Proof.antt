@@ -13,7 +13,10 @@ is-closed-requires : tie.Need-is-closed-requires
 is-closed-requires c κs = search needs
 
 returns : tie.Need-returns
-returns c = as-turn (sym (finish-closed (c .before .before .before .args .self) (c .before .before .before .args .count) (sym (c .before .is-closed .ensures) ∙ c .if1 .taken))) (silent (omega arith) (omega arith) refl refl)
+returns c =
+    let at-is-closed = c .before in
+    let start = at-is-closed .before .before in
+    as-turn (sym (finish-closed (start .args .self) (start .args .count) (sym (at-is-closed .is-closed .ensures) ∙ c .if1 .taken))) (silent (omega arith) (omega arith) refl refl)
 
 wrapping-add-u64-requires : tie.Need-wrapping-add-u64-requires
 wrapping-add-u64-requires c κs = search needs
@@ -26,8 +29,14 @@ same-length c = search needs
 
 returns-2 : tie.Need-returns-2
 returns-2 c =
-    as-turn (ap (λ (k : ℕ). refusedTurn (c .before .before .before .before .before .before .before .before .args .self) k NoEnd) (c .before .before .before .before .wrapping-add-u64 .ensures) ∙ sym (finish-open (c .before .before .before .before .before .before .before .before .args .self) (c .before .before .before .before .before .before .before .before .args .count) (sym (c .before .before .before .before .before .before .is-closed .ensures) ∙ c .before .before .before .before .before .if1 .left)))
-    (c .before .before .refused .ensures)
+    let at-refused = c .before .before in
+    let at-wrapping-add-u64 = at-refused .before .before in
+    let at-if1 = at-wrapping-add-u64 .before in
+    let at-is-closed = at-if1 .before in
+    let start = at-is-closed .before .before in
+    as-turn (ap (λ (k : ℕ). refusedTurn (start .args .self) k NoEnd) (at-wrapping-add-u64 .wrapping-add-u64 .ensures) ∙ sym
+    (finish-open (start .args .self) (start .args .count) (sym (at-is-closed .is-closed .ensures) ∙ at-if1 .if1 .left)))
+    (at-refused .refused .ensures)
 
 pub finish-spec : {M : Type 1} → statement M
 finish-spec =

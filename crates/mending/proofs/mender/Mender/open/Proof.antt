@@ -23,10 +23,20 @@ same-length c = search needs
 
 returns : tie.Need-returns
 unfolding openTurn
-returns c = as-turn (refuses (c .before .before .before .before .before .number .ensures) (c .before .before .before .before .before .before .open-refusal .ensures) (c .before .before .before .before .before .before .before .before .args .self) (c .before .before .before .before .before .before .before .before .args .number) _ (c .before .before .before .before .if1 .taken)) (c .before .before .refused .ensures)
+returns c =
+    let at-refused = c .before .before in
+    let at-if1 = at-refused .before .before in
+    let at-number = at-if1 .before in
+    let at-open-refusal = at-number .before in
+    let start = at-open-refusal .before .before in
+    as-turn (refuses (at-number .number .ensures) (at-open-refusal .open-refusal .ensures) (start .args .self) (start .args .number) _ (at-if1 .if1 .taken)) (at-refused .refused .ensures)
 
 grid-of-requires : tie.Need-grid-of-requires
-grid-of-requires c κs = opened-quarters (c .before .before .before .before .args .header) (accepted-none _ (none-refused (c .before .number .ensures) (c .before .before .open-refusal .ensures) (c .if1 .left))) .1
+grid-of-requires c κs =
+    let at-number = c .before in
+    let at-open-refusal = at-number .before in
+    let start = at-open-refusal .before .before in
+    opened-quarters (start .args .header) (accepted-none _ (none-refused (at-number .number .ensures) (at-open-refusal .open-refusal .ensures) (c .if1 .left))) .1
 
 opened-requires : tie.Need-opened-requires
 opened-requires c κs = search needs
@@ -34,8 +44,13 @@ opened-requires c κs = search needs
 returns-2 : tie.Need-returns-2
 unfolding openTurn
 returns-2 c =
-    as-turn (goes-on (c .before .before .before .number .ensures) (c .before .before .before .before .open-refusal .ensures) (c .before .before .before .before .before .before .args .self) (c .before .before .before .before .before .before .args .number) _ (c .before .before .if1 .left))
-    (silent (omega arith) (omega arith) (c .opened .ensures ∙ ap (openedBy (c .before .before .before .before .before .before .args .self)) (c .before .grid-of .ensures)) refl)
+    let at-grid-of = c .before in
+    let at-if1 = at-grid-of .before in
+    let at-number = at-if1 .before in
+    let at-open-refusal = at-number .before in
+    let start = at-open-refusal .before .before in
+    as-turn (goes-on (at-number .number .ensures) (at-open-refusal .open-refusal .ensures) (start .args .self) (start .args .number) _ (at-if1 .if1 .left))
+    (silent (omega arith) (omega arith) (c .opened .ensures ∙ ap (openedBy (start .args .self)) (at-grid-of .grid-of .ensures)) refl)
 
 pub open-spec : {M : Type 1} → statement M
 open-spec =

@@ -16,7 +16,11 @@ same-length : tie.Need-same-length
 same-length c = search needs
 
 returns : tie.Need-returns
-returns c = rw (good-text (restItems (c .before .before .before .before .before .before .before .before .before .before .args .self) (c .before .before .before .before .before .before .before .before .before .before .args .place)) (c .before .before .before .before .before .before .before .before .before .before .args .row .sample)) (both (c .before .before .before .before .before .before .before .put-rest .ensures) (c .before .before .put-sample .ensures))
+returns c =
+    let at-put-sample = c .before .before in
+    let at-put-rest = at-put-sample .before .before .before .before .before in
+    let start = at-put-rest .before .before .before in
+    rw (good-text (restItems (start .args .self) (start .args .place)) (start .args .row .sample)) (both (at-put-rest .put-rest .ensures) (at-put-sample .put-sample .ensures))
 
 pub put-good-spec : {M : Type 1} → statement M
 put-good-spec = tie.close (tie.spec put-rest-requires put-sample-requires same-length returns)

@@ -17,7 +17,9 @@ enum-told : tie.Need-enum-told
 enum-told c = search needs
 
 cast-put-mark : tie.Need-cast-put-mark
-cast-put-mark c = let f : SFits w32 (c .before .before .before .before .before .before .args .row .second) = search needs in rw (toZ-ofZ w32 (c .before .before .before .before .before .before .args .row .second) f) (wide f)
+cast-put-mark c =
+    let start = c .before .before .before .before .before .before in
+    let f : SFits w32 (start .args .row .second) = search needs in rw (toZ-ofZ w32 (start .args .row .second) f) (wide f)
 
 put-mark-requires : tie.Need-put-mark-requires
 put-mark-requires c κs = search needs
@@ -26,7 +28,9 @@ enum-told-2 : tie.Need-enum-told-2
 enum-told-2 c = search needs
 
 cast-put-mark-2 : tie.Need-cast-put-mark-2
-cast-put-mark-2 c = let f : SFits w32 (c .before .before .before .before .before .before .args .row .second) = search needs in rw (toZ-ofZ w32 (c .before .before .before .before .before .before .args .row .second) f) (wide f)
+cast-put-mark-2 c =
+    let start = c .before .before .before .before .before .before in
+    let f : SFits w32 (start .args .row .second) = search needs in rw (toZ-ofZ w32 (start .args .row .second) f) (wide f)
 
 put-mark-requires-2 : tie.Need-put-mark-requires-2
 put-mark-requires-2 c κs = search needs
@@ -42,18 +46,24 @@ same-length c = search needs
 
 returns : tie.Need-returns
 returns c =
-    let z = c .before .before .before .before .before .before .before .before .before .args .row .second in
+    let at-put-mark = c .before .before in
+    let at-enum-told = at-put-mark .before .before .before .before in
+    let start = at-enum-told .before .before .before in
+    let z = start .args .row .second in
     let f : SFits w32 z = search needs in
-    rw (c .before .before .before .before .before .before .enum-told .given .1, stray-text z) (wider 4184 (omega arith) (rw (toZ-ofZ w32 z f, toZ-ofZ w64 z (wide f)) at (c .before .before .put-mark .ensures)))
+    rw (at-enum-told .enum-told .given .1, stray-text z) (wider 4184 (omega arith) (rw (toZ-ofZ w32 z f, toZ-ofZ w64 z (wide f)) at (at-put-mark .put-mark .ensures)))
 
 same-length-2 : tie.Need-same-length-2
 same-length-2 c = search needs
 
 returns-2 : tie.Need-returns-2
 returns-2 c =
-    let z = c .before .before .before .before .before .before .before .before .before .args .row .second in
+    let at-put-mark2 = c .before .before in
+    let at-enum-told2 = at-put-mark2 .before .before .before .before in
+    let start = at-enum-told2 .before .before .before in
+    let z = start .args .row .second in
     let f : SFits w32 z = search needs in
-    rw (c .before .before .before .before .before .before .enum-told2 .given .1, repeated-text z) (wider 4184 (omega arith) (rw (toZ-ofZ w32 z f, toZ-ofZ w64 z (wide f)) at (c .before .before .put-mark2 .ensures)))
+    rw (at-enum-told2 .enum-told2 .given .1, repeated-text z) (wider 4184 (omega arith) (rw (toZ-ofZ w32 z f, toZ-ofZ w64 z (wide f)) at (at-put-mark2 .put-mark2 .ensures)))
 
 same-length-3 : tie.Need-same-length-3
 same-length-3 c = search needs

@@ -19,9 +19,13 @@ same-length c = search needs
 
 returns : tie.Need-returns
 returns c =
-    as-turn (ap (λ (s : Sorted). sortedTurn (c .before .before .before .before .before .before .before .args .self) (c .before .before .before .before .before .before .before .args .number) s (c .before .before .before .before .before .before .before .args .row))
-    (c .before .before .before .before .sorted .ensures ∙ ap (sortedAt (c .before .before .before .before .before .before .before .args .self)) (back32 {z = c .before .before .before .before .before .before .before .args .row .second} (c .before .before .before .before .before .struct-told .given .0 .1))))
-    (c .before .before .sorted-row .ensures)
+    let at-sorted-row = c .before .before in
+    let at-sorted = at-sorted-row .before .before in
+    let at-struct-told = at-sorted .before in
+    let start = at-struct-told .before .before in
+    as-turn (ap (λ (s : Sorted). sortedTurn (start .args .self) (start .args .number) s (start .args .row))
+    (at-sorted .sorted .ensures ∙ ap (sortedAt (start .args .self)) (back32 {z = start .args .row .second} (at-struct-told .struct-told .given .0 .1))))
+    (at-sorted-row .sorted-row .ensures)
 
 pub row-spec : {M : Type 1} → statement M
 row-spec = tie.close (tie.spec sorted-requires sorted-row-requires same-length returns)

@@ -19,7 +19,8 @@ told-actual c =
     c .in-range2 .ensures
     ∙ ap powerInRange (back32 {z = c .before .before .before .before .before .before .args .row .sample .actual} (c .before .struct-told2 .given .1 .0 .1))
 
-told-earlier : (c : tie.After-is-earlier) → (let a = c .before .before .before .before .before .before .before .before .before .before .before .before .args in c .is-earlier .result ≡ earlierThan (a .self .before) (a .row .second))
+told-earlier : (c : tie.After-is-earlier)
+    → (let a = c .before .before .before .before .before .before .before .before .before .before .before .before .args in c .is-earlier .result ≡ earlierThan (a .self .before) (a .row .second))
 told-earlier c =
     let a = c .before .before .before .before .before .before .before .before .before .before .before .before .args in
     c .is-earlier .ensures ∙ ap (earlierThan (a .self .before)) (back32 {z = a .row .second} (c .before .struct-told3 .given .0 .1))
@@ -58,24 +59,34 @@ is-earlier-requires c κs = search needs
 returns-4 : tie.Need-returns-4
 unfolding rowRefusal
 returns-4 c =
+    let at-if3 = c .before .before .before in
+    let at-number = at-if3 .before in
+    let at-sorted-refusal = at-number .before in
+    let at-if2 = at-sorted-refusal .before in
+    let at-if1 = at-if2 .before .before .before in
     rw (
-      sym (told-setpoint (c .before .before .before .before .before .before .before .before .before .before)) ∙ not-false _ (c .before .before .before .before .before .before .before .before .before .if1 .left),
-      sym (told-actual (c .before .before .before .before .before .before .before)) ∙ not-false _ (c .before .before .before .before .before .before .if2 .left),
-      ← c .before .before .before .before .before .sorted-refusal .ensures,
-      ← c .before .before .before .before .number .ensures,
-      eq-eqb _ _ (c .before .before .before .if3 .left),
+      sym (told-setpoint (at-if1 .before)) ∙ not-false _ (at-if1 .if1 .left),
+      sym (told-actual (at-if2 .before)) ∙ not-false _ (at-if2 .if2 .left),
+      ← at-sorted-refusal .sorted-refusal .ensures,
+      ← at-number .number .ensures,
+      eq-eqb _ _ (at-if3 .if3 .left),
       sym (told-earlier (c .before)) ∙ c .if4 .taken,
     )
 
 returns-5 : tie.Need-returns-5
 unfolding rowRefusal
 returns-5 c =
+    let at-if3 = c .before .before .before in
+    let at-number = at-if3 .before in
+    let at-sorted-refusal = at-number .before in
+    let at-if2 = at-sorted-refusal .before in
+    let at-if1 = at-if2 .before .before .before in
     rw (
-      sym (told-setpoint (c .before .before .before .before .before .before .before .before .before .before)) ∙ not-false _ (c .before .before .before .before .before .before .before .before .before .if1 .left),
-      sym (told-actual (c .before .before .before .before .before .before .before)) ∙ not-false _ (c .before .before .before .before .before .before .if2 .left),
-      ← c .before .before .before .before .before .sorted-refusal .ensures,
-      ← c .before .before .before .before .number .ensures,
-      eq-eqb _ _ (c .before .before .before .if3 .left),
+      sym (told-setpoint (at-if1 .before)) ∙ not-false _ (at-if1 .if1 .left),
+      sym (told-actual (at-if2 .before)) ∙ not-false _ (at-if2 .if2 .left),
+      ← at-sorted-refusal .sorted-refusal .ensures,
+      ← at-number .number .ensures,
+      eq-eqb _ _ (at-if3 .if3 .left),
       sym (told-earlier (c .before)) ∙ c .if4 .left,
     )
 

@@ -20,10 +20,21 @@ same-length c = search needs
 
 returns : tie.Need-returns
 unfolding sortedTurn
-returns c = as-turn (refuses (c .before .before .before .before .before .number .ensures) (c .before .before .before .before .before .before .row-refusal .ensures) (c .before .before .before .before .before .before .before .before .args .self) (c .before .before .before .before .before .before .before .before .args .number) _ (c .before .before .before .before .if1 .taken)) (c .before .before .refused .ensures)
+returns c =
+    let at-refused = c .before .before in
+    let at-if1 = at-refused .before .before in
+    let at-number = at-if1 .before in
+    let at-row-refusal = at-number .before in
+    let start = at-row-refusal .before .before in
+    as-turn (refuses (at-number .number .ensures) (at-row-refusal .row-refusal .ensures) (start .args .self) (start .args .number) _ (at-if1 .if1 .taken)) (at-refused .refused .ensures)
 
 put-sorted-requires : tie.Need-put-sorted-requires
-put-sorted-requires c κs = sorted-none (c .before .before .before .before .before .args .self) (c .before .before .before .before .before .args .sorted) (c .before .before .before .before .before .args .row) (none-refused (c .before .before .number .ensures) (c .before .before .before .row-refusal .ensures) (c .before .if1 .left))
+put-sorted-requires c κs =
+    let at-if1 = c .before in
+    let at-number = at-if1 .before in
+    let at-row-refusal = at-number .before in
+    let start = at-row-refusal .before .before in
+    sorted-none (start .args .self) (start .args .sorted) (start .args .row) (none-refused (at-number .number .ensures) (at-row-refusal .row-refusal .ensures) (at-if1 .if1 .left))
 
 with-row-requires : tie.Need-with-row-requires
 with-row-requires c κs = search needs
@@ -34,7 +45,13 @@ same-length-2 c = search needs
 returns-2 : tie.Need-returns-2
 unfolding sortedTurn
 returns-2 c =
-    as-turn (goes-on (c .before .before .before .before .before .before .number .ensures) (c .before .before .before .before .before .before .before .row-refusal .ensures) (c .before .before .before .before .before .before .before .before .before .args .self) (c .before .before .before .before .before .before .before .before .before .args .number) _ (c .before .before .before .before .before .if1 .left)) (printed _ (omega arith) (c .with-row .ensures) (c .before .before .before .put-sorted .ensures))
+    let at-put-sorted = c .before .before .before in
+    let at-if1 = at-put-sorted .before .before in
+    let at-number = at-if1 .before in
+    let at-row-refusal = at-number .before in
+    let start = at-row-refusal .before .before in
+    as-turn (goes-on (at-number .number .ensures) (at-row-refusal .row-refusal .ensures) (start .args .self) (start .args .number) _ (at-if1 .if1 .left))
+    (printed _ (omega arith) (c .with-row .ensures) (at-put-sorted .put-sorted .ensures))
 
 pub sorted-row-spec : {M : Type 1} → statement M
 sorted-row-spec =

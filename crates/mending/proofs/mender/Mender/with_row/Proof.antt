@@ -25,10 +25,18 @@ taken-requires : tie.Need-taken-requires
 taken-requires c κs = search needs
 
 returns : tie.Need-returns
-returns c = rw (c .before .before .enum-told .given .1) (c .dropped .ensures ∙ ap (droppedAt (c .before .before .before .before .args .self)) (back32 {z = c .before .before .before .before .args .row .second} (c .before .struct-told .given .0 .1)))
+returns c =
+    let at-struct-told = c .before in
+    let at-enum-told = at-struct-told .before in
+    let start = at-enum-told .before .before in
+    rw (at-enum-told .enum-told .given .1) (c .dropped .ensures ∙ ap (droppedAt (start .args .self)) (back32 {z = start .args .row .second} (at-struct-told .struct-told .given .0 .1)))
 
 returns-2 : tie.Need-returns-2
-returns-2 c = rw (c .before .before .enum-told2 .given .1) (c .dropped2 .ensures ∙ ap (droppedAt (c .before .before .before .before .args .self)) (back32 {z = c .before .before .before .before .args .row .second} (c .before .struct-told2 .given .0 .1)))
+returns-2 c =
+    let at-struct-told2 = c .before in
+    let at-enum-told2 = at-struct-told2 .before in
+    let start = at-enum-told2 .before .before in
+    rw (at-enum-told2 .enum-told2 .given .1) (c .dropped2 .ensures ∙ ap (droppedAt (start .args .self)) (back32 {z = start .args .row .second} (at-struct-told2 .struct-told2 .given .0 .1)))
 
 returns-3 : tie.Need-returns-3
 returns-3 c = rw (c .before .before .sorted .given .1) (c .taken .ensures)

@@ -9,13 +9,17 @@ count-requires : tie.Need-count-requires
 count-requires c κs = search needs
 
 rows-at-requires : tie.Need-rows-at-requires
-rows-at-requires c κs = let entry = c .before .before .before .before .before .before in (entry .pre .0, record { few = omega arith; within = omega (arith, entry .pre .1 .0); room = entry .pre .1 .1 .0 })
+rows-at-requires c κs = let entry = c .before .before .before .before .before .before in
+    (entry .pre .0, record { few = omega arith; within = omega (arith, entry .pre .1 .0); room = entry .pre .1 .1 .0 })
 
 same-length : tie.Need-same-length
 same-length c = search needs
 
 returns : tie.Need-returns
-returns c = tried-none {reader = c .before .before .before .before .before .before .before .before .before .before .before .args .self} (c .before .before .before .before .rows-at .ensures) (c .if1 .taken)
+returns c =
+    let at-rows-at = c .before .before .before .before in
+    let start = at-rows-at .before .before .before .before .before .before .before in
+    tried-none {reader = start .args .self} (at-rows-at .rows-at .ensures) (c .if1 .taken)
 
 past-requires : tie.Need-past-requires
 past-requires c κs = search needs
