@@ -2,7 +2,7 @@
 use mathlib.Core.Path.{_∙_, sym, ap}
 use denote.Ref.{now}
 use Rattle.binding.specs.Single.{Single, SingleBytes}
-use Rattle.checking.specs.Kept.{keeping}
+use Rattle.judging.specs.Kept.{keeping}
 use Rattle.checking.specs.Checker.{Standing}
 use Rattle.checking.proofs.checker.Checker.new.Reads as new
 use Rattle.checking.proofs.checker.Checker.line.Reads as line

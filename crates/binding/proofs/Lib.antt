@@ -20,5 +20,6 @@ mod Text
 mod Samples
 mod Feed
 mod Mending
+mod Judging
 mod Checking
 mod Sharefeed

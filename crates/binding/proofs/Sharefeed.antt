@@ -3,7 +3,7 @@ use mathlib.Core.Path.{_∙_, sym, ap}
 use denote.Ref.{now}
 use Rattle.binding.specs.Single.{Single, SingleBytes}
 use Rattle.lines.specs.Handing.{Progress}
-use Rattle.checking.specs.Kept.{keeping}
+use Rattle.judging.specs.Kept.{keeping}
 use Rattle.checking.specs.Checker.{Standing}
 use Rattle.sharefeed.proofs.Reader.new.Reads as new
 use Rattle.sharefeed.proofs.Reader.is_stopped.Reads as is-stopped

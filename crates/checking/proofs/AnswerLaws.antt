@@ -22,8 +22,8 @@ use Rattle.reading.specs.declared.Line.{Line}
 use Rattle.reading.specs.declared.Line.the-variants as L
 use Rattle.reading.specs.declared.share.Asked.{Asked}
 use Rattle.reading.specs.declared.share.Asked.the-variants as A
-use Rattle.checking.specs.Kept.{Kept, keeping, keptOf, withSheets, withShare}
-use Rattle.checking.specs.Wanted.{earlyGround}
+use Rattle.judging.specs.Kept.{Kept, keeping, keptOf, withSheets, withShare}
+use Rattle.judging.specs.Wanted.{earlyGround}
 use Rattle.checking.specs.Checker.{checkerAt, Standing, standing, stoppedBy, answeredBy, endedBy, quarterTurn, sampleTurn, groundOf, shareTurn, firstBy}
 use Rattle.checking.specs.Checker.{nextTurn, lateGround, laterTurn, finishAt}
 use Rattle.checking.specs.Answers.{openingOf, openingBy, answerTo, followsOf, answeredTurn, lateRefusal, kwhOf, stageAfter, sharesAfter, faultOf}

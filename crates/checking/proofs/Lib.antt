@@ -1,4 +1,2 @@
-pub mod JudgedLaws
 pub mod CheckerLaws
-pub mod WantedLaws
 pub mod AnswerLaws

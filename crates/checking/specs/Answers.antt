@@ -18,8 +18,8 @@ use Rattle.reading.specs.declared.Line.{Line}
 use Rattle.reading.specs.declared.Line.the-variants as L
 use Rattle.reading.specs.declared.share.Asked.{Asked}
 use Rattle.reading.specs.declared.share.Asked.the-variants as A
-use Rattle.checking.specs.Kept.{Kept}
-use Rattle.checking.specs.Wanted.{earlyGround}
+use Rattle.judging.specs.Kept.{Kept}
+use Rattle.judging.specs.Wanted.{earlyGround}
 use Rattle.checking.specs.Checker.{Standing, standing, checkerAt, stoppedBy, openedBy, quarterTurn, lateGround, groundOf, ruledText}
 use Rattle.checking.specs.declared.checker.Stage.{Stage}
 use Rattle.checking.specs.declared.checker.Stage.the-variants.{Empty, Open, Ended, Stopped}

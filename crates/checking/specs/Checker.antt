@@ -28,9 +28,9 @@ use Rattle.reading.specs.declared.Line.the-variants as L
 use Rattle.reading.specs.declared.share.Share.{Share}
 use Rattle.reading.specs.declared.share.Asked.{Asked}
 use Rattle.reading.specs.declared.share.Asked.the-variants as A
-use Rattle.checking.specs.Kept.{Kept, withSheets, withShare}
-use Rattle.checking.specs.Wanted.{wantedIn, shareGround, earlyGround}
-use Rattle.checking.specs.Judged.{judgedOf}
+use Rattle.judging.specs.Kept.{Kept, withSheets, withShare}
+use Rattle.judging.specs.Wanted.{wantedIn, shareGround, earlyGround}
+use Rattle.judging.specs.Judged.{judgedOf}
 use Rattle.checking.specs.declared.checker.Stage.{Stage}
 use Rattle.checking.specs.declared.checker.Stage.the-variants.{Empty, Open, Ended, Stopped}
 use Rattle.checking.specs.declared.checker.Checker.{Checker}

@@ -1,5 +1,2 @@
-pub mod Kept
-pub mod Wanted
-pub mod Judged
 pub mod Checker
 pub mod Answers

@@ -1,5 +1,5 @@
 // What the run answers to a line, and what follows. A refused call hands back the run that came in, so that one path serves for both.
-use crate::wanted::early_refusal;
+use judging::wanted::early_refusal;
 use reading::Line;
 use reading::identifier;
 use reading::share::Asked;

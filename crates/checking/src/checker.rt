@@ -4,13 +4,12 @@ use crate::answers::Opening;
 use crate::answers::answer_to;
 use crate::answers::opens;
 use crate::answers::what_follows;
-use crate::judged::judged;
-use crate::kept::keep;
-use crate::kept::put_share;
-use crate::wanted::quarters_of;
-use crate::wanted::share_refusal;
-use crate::wanted::wanted;
 use arithmetic::date::Date;
+use judging::judged::judged;
+use judging::kept::keep;
+use judging::kept::put_share;
+use judging::wanted::share_refusal;
+use judging::wanted::wanted;
 use reading::Line;
 use reading::share::Asked;
 use reading::share::read_asked;
@@ -29,8 +28,9 @@ ghost use Prim.Native.Nat.{ℕ, _^_, _<_};
 ghost use lib.IntN.{ℤ};
 ghost use Rattle.vocabulary.specs.Refusals.{numberOf};
 ghost use Rattle.reading.specs.Share.{askedOf};
+ghost use Rattle.settlement.specs.Run.{endedOf};
 ghost use Rattle.sheets.specs.Sheet.{refusalText};
-ghost use Rattle.checking.specs.Kept.{keeping};
+ghost use Rattle.judging.specs.Kept.{keeping};
 ghost use Rattle.checking.specs.Checker.{checkerAt, standing, emptyChecker, stoppedBy, openedBy, quarterTurn, firstBy, nextTurn, lateGround};
 ghost use Rattle.checking.specs.Checker.{laterTurn, lineTurn, stoppedAt, Told, ruledText, finishText};
 ghost use Rattle.checking.specs.Answers.{faultOf, answeredTurn, lateRefusal, kwhOf, stageAfter, sharesAfter, endingOf};
@@ -58,6 +58,13 @@ pub enum Ending {
 pub struct Checker {
     run: Run,
     stage: Stage,
+}
+
+// How many quarter hours were taken.
+fn quarters_of(run: Run) -> u8
+    ensures { λ r. ⌜ r ≡ endedOf run .quarters ⌝ }
+{
+    run.end().quarters
 }
 
 // After E any line of an input that is settled comes too late.

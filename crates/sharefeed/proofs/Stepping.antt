@@ -1,7 +1,7 @@
 -- A block is read a line at a time.
 -- Assumes nothing.
 use Prim.Native.Nat.{ℕ, _+_, _-_, _≤_, _<_}
-use mathlib.Core.Path.{_≡_, refl, sym, ap, _∙_}
+use mathlib.Core.Path.{_≡_, refl, sym, ap, subst, _∙_}
 use mathlib.Core.Bool.{Bool, true, false, cond}
 use mathlib.Core.List.{List, [], _∷_}
 use native.Mathlib.Omega.{arith}
@@ -17,7 +17,7 @@ use Rattle.lines.specs.declared.Gathered.{Gathered}
 use Rattle.lines.proofs.Reading.{ends, goes-on}
 use Rattle.lines.proofs.Calls.{used-all, used-some, used-within, after-end, after-other}
 use Rattle.checking.specs.Checker.{Standing, lineTurn}
-use Rattle.sharefeed.specs.Reader.{handled, feedOf, Moves}
+use Rattle.sharefeed.specs.Reader.{handled, feedOf, afterPart, Moves}
 
 module _ {S : Type 0} (handle : S → Gatherer → S) where
   -- what follows a call of `gather`: a complete line is handed out, and the rest of the block is read
@@ -71,7 +71,7 @@ module _ (g : Gatherer) (s : Standing) (block : List ℕ) (at : ℕ) (part : Gat
   read = by-line handled (drop at block) g s ∙ sym (ap (onPart handled s (drop at block)) is-gathered)
 
   -- no line was complete: the whole block was read
-  pub rest-of-block : part .complete ≡ false → Moves (record { gatherer = g; state = s }) block at (part .used) (record { gatherer = part .gatherer; state = s })
+  rest-of-block : part .complete ≡ false → Moves (record { gatherer = g; state = s }) block at (part .used) (record { gatherer = part .gatherer; state = s })
   rest-of-block e =
       let u : part .used ≡ length (drop at block) = used-is ∙ used-all (drop at block) g (sym (ap (λ (r : Gathered). r .complete) is-gathered) ∙ e) in
       let w : length block ≤ at + part .used = omega (arith, left) in
@@ -84,7 +84,7 @@ module _ (g : Gatherer) (s : Standing) (block : List ℕ) (at : ℕ) (part : Gat
       }
 
   -- the line at hand was complete, and the checker took it
-  pub line-of-block : {next : Standing} {fresh : Gatherer} → part .complete ≡ true → fresh ≡ freshOf (part .gatherer) → lineTurn s (part .gatherer .count) (heldBy (part .gatherer)) ≡ next
+  line-of-block : {next : Standing} {fresh : Gatherer} → part .complete ≡ true → fresh ≡ freshOf (part .gatherer) → lineTurn s (part .gatherer .count) (heldBy (part .gatherer)) ≡ next
       → Moves (record { gatherer = g; state = s }) block at (part .used) (record { gatherer = fresh; state = next })
   line-of-block e f t =
       record {
@@ -94,3 +94,12 @@ module _ (g : Gatherer) (s : Standing) (block : List ℕ) (at : ℕ) (part : Gat
             ∙ ap (on handled s (drop (part .used) (drop at block)) (part .gatherer)) e
             ∙ rw (← f, t, drop-drop (part .used) at block);
       }
+
+  -- either way
+  part-as : (b : Bool) → part .complete ≡ b
+      → Moves (record { gatherer = g; state = s }) block at (part .used) (cond b (handed handled s (part .gatherer)) (record { gatherer = part .gatherer; state = s }))
+  part-as true e = line-of-block e refl refl
+  part-as false e = rest-of-block e
+
+  pub part-of-block : {next : Progress Standing} → afterPart s part ≡ next → Moves (record { gatherer = g; state = s }) block at (part .used) next
+  part-of-block e = subst (λ (p : Progress Standing). Moves (record { gatherer = g; state = s }) block at (part .used) p) e (part-as (part .complete) refl)

@@ -1,13 +1,16 @@
 -- What a block makes of a reader of an input to the checker of shares (docs/RULES.md, 'Text', 'Checking shares').
 use Prim.Native.Nat.{ℕ, _+_, _≤_, _<_}
 use mathlib.Core.Path.{_≡_}
+use mathlib.Core.Bool.{cond}
 use mathlib.Core.List.{List}
 use lib.ListN.{length, drop}
 use Rattle.lines.specs.Gathering.{emptyGatherer}
-use Rattle.lines.specs.Handing.{Progress, heldBy, afterBytes}
+use Rattle.lines.specs.Handing.{Progress, heldBy, handed, afterBytes}
 use Rattle.lines.specs.declared.Gatherer.{Gatherer}
-use Rattle.checking.specs.Kept.{Kept}
+use Rattle.lines.specs.declared.Gathered.{Gathered}
+use Rattle.judging.specs.Kept.{Kept}
 use Rattle.checking.specs.Checker.{Standing, standing, emptyChecker, lineTurn, finishText}
+use Rattle.checking.specs.declared.checker.Checker.{Checker}
 use Rattle.sharefeed.specs.declared.Reader.{Reader}
 
 -- before the input
@@ -32,6 +35,13 @@ printedFor kept input =
     finishText (feedOf (progress emptyReader kept) input .state) (feedOf (progress emptyReader kept) input .gatherer .count)
 
 -- ---- a part of a call, as the code has it
+
+abbrev pub reading : Gatherer → Checker → Reader
+reading gatherer checker = record { gatherer = gatherer; checker = checker }
+
+-- after some bytes: a complete line is handed out, or the line at hand is longer
+abbrev pub afterPart : Standing → Gathered → Progress Standing
+afterPart s part = cond (part .complete) (handed handled s (part .gatherer)) (record { gatherer = part .gatherer; state = s })
 
 -- from place `at` on, some bytes were used
 pub record Moves (p : Progress Standing) (block : List ℕ) (at used : ℕ) (p′ : Progress Standing) : Type 0 where

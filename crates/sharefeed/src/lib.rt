@@ -1,14 +1,16 @@
 // Blocks of an input for the checker of shares, in constant memory, however the input is cut. Nothing is printed before its end, so a call reads its whole block.
 use checking::checker::Checker;
+use lines::Gathered;
 use lines::Gatherer;
 use sheets::Printed;
 ghost use mathlib.Core.Path.{_≡_};
-ghost use Prim.Native.Nat.{_≤_, _<_};
+ghost use mathlib.Core.List.{List};
+ghost use Prim.Native.Nat.{ℕ, _≤_};
 ghost use lib.ListN.{length, take};
-ghost use Rattle.lines.specs.Handing.{heldBy};
-ghost use Rattle.checking.specs.Kept.{keeping};
+ghost use Rattle.lines.specs.Handing.{heldBy, handed};
+ghost use Rattle.judging.specs.Kept.{keeping};
 ghost use Rattle.checking.specs.Checker.{standing, lineTurn, stoppedAt, Told, finishText};
-ghost use Rattle.sharefeed.specs.Reader.{emptyReader, progress, feedOf, Moves};
+ghost use Rattle.sharefeed.specs.Reader.{emptyReader, progress, handled, feedOf, reading, afterPart};
 
 // The line at hand, and the checker.
 pub struct Reader {
@@ -16,10 +18,14 @@ pub struct Reader {
     checker: Checker,
 }
 
-// The reader after some bytes of a block.
-struct Moved {
-    reader: Reader,
-    used: usize,
+// So many bytes, or all that there are.
+fn at_most(kept: usize, all: usize) -> usize
+    ensures { λ r. ⌜ (r ≤ all) × ((bytes : List ℕ) → length bytes ≡ all → take r bytes ≡ take kept bytes) ⌝ }
+{
+    if kept < all {
+        return kept;
+    }
+    all
 }
 
 // A line of which so many bytes are kept.
@@ -35,10 +41,8 @@ fn told(
     ensures { λ r. ⌜ lineTurn (standing checker (keeping (now (gaps .entry)) (now (surpluses .entry)) (now (shares .entry)))) number (take kept (now (bytes .entry)))
         ≡ standing r (keeping (now (gaps .exit)) (now (surpluses .exit)) (now (shares .exit))) ⌝ }
 {
-    if kept < bytes.len() {
-        return checker.line(number, &bytes[..kept], gaps, surpluses, shares);
-    }
-    checker.line(number, bytes, gaps, surpluses, shares)
+    let kept = at_most(kept, bytes.len());
+    checker.line(number, &bytes[..kept], gaps, surpluses, shares)
 }
 
 fn served(
@@ -68,54 +72,56 @@ impl Reader {
     pub fn new() -> Reader
         ensures { λ r. ⌜ r ≡ emptyReader ⌝ }
     {
-        Reader {
-            gatherer: Gatherer::new(),
-            checker: Checker::new(),
-        }
+        Reader::with(Gatherer::new(), Checker::new())
     }
 
     // Whether a line was refused: then nothing is read any more.
     pub fn is_stopped(self) -> bool
         ensures { λ r. ⌜ r ≡ stoppedAt (self .checker .stage) ⌝ }
     {
-        let checker = self.checker;
-        checker.is_stopped()
+        self.checker.is_stopped()
     }
 
-    // On to the next line end, or to the end of the block.
-    fn step(
+    fn with(gatherer: Gatherer, checker: Checker) -> Reader
+        ensures { λ r. ⌜ r ≡ reading gatherer checker ⌝ }
+    {
+        Reader {
+            gatherer: gatherer,
+            checker: checker,
+        }
+    }
+
+    // A line is complete: the checker takes it.
+    fn ended(
         self,
-        block: &[u8],
-        at: usize,
+        held: Gatherer,
         gaps: &mut [[u32; 32]],
         surpluses: &mut [u32],
         shares: &mut [i32],
-    ) -> Moved
-        requires { ⌜ at < length (now block) ⌝ }
-        ensures { λ r. ⌜ Moves (progress self (keeping (now (gaps .entry)) (now (surpluses .entry)) (now (shares .entry)))) (now (block .entry)) at (r .used)
-            (progress (r .reader) (keeping (now (gaps .exit)) (now (surpluses .exit)) (now (shares .exit)))) ⌝ }
+    ) -> Reader
+        ensures { λ r. ⌜ handed handled (standing (self .checker) (keeping (now (gaps .entry)) (now (surpluses .entry)) (now (shares .entry)))) held
+            ≡ progress r (keeping (now (gaps .exit)) (now (surpluses .exit)) (now (shares .exit))) ⌝ }
     {
-        let gatherer = self.gatherer;
-        let checker = self.checker;
-        let part = gatherer.gather(&block[at..]);
+        let after = served(self.checker, held, gaps, surpluses, shares);
+        Reader::with(held.fresh(), after)
+    }
+
+    // After some bytes of a block, up to the next line end or to the end of the block.
+    fn after(
+        self,
+        part: Gathered,
+        gaps: &mut [[u32; 32]],
+        surpluses: &mut [u32],
+        shares: &mut [i32],
+    ) -> Reader
+        ensures { λ r. ⌜ afterPart (standing (self .checker) (keeping (now (gaps .entry)) (now (surpluses .entry)) (now (shares .entry)))) part
+            ≡ progress r (keeping (now (gaps .exit)) (now (surpluses .exit)) (now (shares .exit))) ⌝ }
+    {
         let at_hand = part.gatherer;
-        if !part.complete {
-            return Moved {
-                reader: Reader {
-                    gatherer: at_hand,
-                    checker,
-                },
-                used: part.used,
-            };
+        if part.complete {
+            return self.ended(at_hand, gaps, surpluses, shares);
         }
-        let after = served(checker, at_hand, gaps, surpluses, shares);
-        Moved {
-            reader: Reader {
-                gatherer: at_hand.fresh(),
-                checker: after,
-            },
-            used: part.used,
-        }
+        Reader::with(at_hand, self.checker)
     }
 
     // A block of the input, all of it.
@@ -132,10 +138,9 @@ impl Reader {
         let mut reader = self;
         let mut i = 0;
         while i < block.len() {
-            let moved = reader.step(block, i, gaps, surpluses, shares);
-            let next = moved.reader;
-            reader = next;
-            i += moved.used;
+            let part = reader.gatherer.gather(&block[i..]);
+            reader = reader.after(part, gaps, surpluses, shares);
+            i += part.used;
         }
         reader
     }
@@ -151,8 +156,7 @@ impl Reader {
         ensures { λ r. ⌜ Told (now (out .entry))
             (finishText (standing (self .checker) (keeping (now (gaps .entry)) (now (surpluses .entry)) (now (shares .entry)))) (self .gatherer .count)) r (now (out .exit)) ⌝ }
     {
-        let gatherer = self.gatherer;
-        let checker = self.checker;
-        checker.finish(gatherer.count(), gaps, surpluses, shares, out)
+        let count = self.gatherer.count();
+        self.checker.finish(count, gaps, surpluses, shares, out)
     }
 }

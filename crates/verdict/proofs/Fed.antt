@@ -12,7 +12,7 @@ use Rattle.lines.specs.Handing.{Progress, afterBytes}
 use Rattle.lines.proofs.Held.{kept-whole, kept-overlong}
 use Rattle.lines.proofs.WholeInput.{kept-lines, lines-counted}
 use Rattle.reading.specs.Share.{askedOf}
-use Rattle.checking.specs.Kept.{Kept}
+use Rattle.judging.specs.Kept.{Kept}
 use Rattle.checking.specs.declared.checker.Stage.{Stage}
 use Rattle.checking.specs.declared.checker.Stage.the-variants.{Empty, Open, Ended, Stopped}
 use Rattle.checking.specs.Checker.{Standing, standing, emptyChecker, turnAt, lineTurn, finishText}

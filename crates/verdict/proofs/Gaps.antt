@@ -33,7 +33,7 @@ use Rattle.meaning.specs.Figures.{gapOfClaim, claimBy, linesBy}
 use Rattle.meaning.specs.Given.{Given, dealsIn, secondsIn, powersIn, termsIn, perQuarter, linesIn, withSample}
 use Rattle.meaning.specs.Endings.{Proper}
 use Rattle.meaning.proofs.Figures.{heldSheet, held-is, held-figures, same-figures}
-use Rattle.checking.specs.Kept.{Kept, capIn, gapIn, gapsOn, noGaps, rowOf, withSheets}
+use Rattle.judging.specs.Kept.{Kept, capIn, gapIn, gapsOn, noGaps, rowOf, withSheets}
 use Rattle.verdict.specs.Wanted.{surplusIn, gapsIn}
 
 -- ---- a gap, from the figures of its line

@@ -19,13 +19,13 @@ use Rattle.meaning.specs.Given.{Given, dealsIn, dealTerms, quartersIn, secondsI
 use Rattle.meaning.specs.Endings.{Proper}
 use Rattle.meaning.proofs.Figures.{claims-count}
 use Rattle.meaning.proofs.Standing.{BooksMeet}
-use Rattle.checking.specs.Kept.{Kept}
-use Rattle.checking.specs.Judged.{filledOut, sharesFrom, holdsAt, holdsIn, verdictFrom, judgedOf}
+use Rattle.judging.specs.Kept.{Kept}
+use Rattle.judging.specs.Judged.{filledOut, sharesFrom, holdsAt, holdsIn, verdictFrom, judgedOf}
 use Rattle.verdict.specs.Wanted.{perQuarterHour, sharesBefore, sharesAt, surplusIn, gapsIn, acceptableAt, Side, side, sidesUpTo, firstFailing, verdictOf}
 use Rattle.verdict.proofs.Own.{place-within, still-there}
 use Rattle.verdict.proofs.Gaps.{KeptMeets}
 use Rattle.verdict.proofs.Places.{count-is}
-use Rattle.checking.specs.Judged as J
+use Rattle.judging.specs.Judged as J
 
 -- ---- shares in 32 places
 

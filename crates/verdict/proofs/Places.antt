@@ -31,11 +31,11 @@ use Rattle.meaning.specs.Endings.{Proper}
 use Rattle.meaning.proofs.Deals.{kept, Well, none, more, count-of}
 use Rattle.meaning.proofs.Figures.{few-deals}
 use Rattle.meaning.proofs.Standing.{BookMeets, BooksMeet}
-use Rattle.checking.specs.declared.wanted.Place.{Place}
-use Rattle.checking.specs.Wanted.{contractsIn, placeOf, isQuarter, sameDirection, saysPlace, isWanted}
+use Rattle.judging.specs.declared.wanted.Place.{Place}
+use Rattle.judging.specs.Wanted.{contractsIn, placeOf, isQuarter, sameDirection, saysPlace, isWanted}
 use Rattle.verdict.specs.Wanted.{Wanted, wantedOf, wantedSide, wantedUpTo, wantedIn, perQuarterHour}
 use Rattle.verdict.specs.Checked.{saysFor, isNext}
-use Rattle.checking.specs.Wanted as C
+use Rattle.judging.specs.Wanted as C
 
 abbrev noDeal : Deal
 noDeal = record { identifier = []; award = 0; price = pos 0 }

@@ -58,9 +58,9 @@ use Rattle.meaning.proofs.Blocks.{none-left, left-is}
 use Rattle.meaning.proofs.Texts.{end-ground, all-taken}
 use Rattle.checking.specs.declared.checker.Stage.the-variants.{Empty, Open, Ended}
 use Rattle.checking.specs.declared.checker.Checker.{Checker}
-use Rattle.checking.specs.Kept.{Kept, withSheets}
-use Rattle.checking.specs.Wanted.{earlyGround, isWanted}
-use Rattle.checking.specs.Judged.{judgedOf}
+use Rattle.judging.specs.Kept.{Kept, withSheets}
+use Rattle.judging.specs.Wanted.{earlyGround, isWanted}
+use Rattle.judging.specs.Judged.{judgedOf}
 use Rattle.checking.specs.Checker.{checkerAt, Standing, standing, emptyChecker, stoppedBy, openedBy, answeredBy, endedBy, quarterTurn}
 use Rattle.checking.specs.Checker.{sampleTurn, groundOf, shareTurn, firstBy, nextTurn, lateGround, laterTurn, lineTurn, ruledText, finishText}
 use Rattle.verdict.specs.Wanted.{Wanted, wantedIn, perQuarterHour}
@@ -73,8 +73,8 @@ use Rattle.verdict.proofs.Judging.{judged-same}
 use Rattle.settlement.specs.Run as R
 use Rattle.reading.specs.declared.Line.the-variants as L
 use Rattle.reading.specs.declared.share.Asked.the-variants as A
-use Rattle.checking.specs.Kept as K
-use Rattle.checking.specs.Wanted as C
+use Rattle.judging.specs.Kept as K
+use Rattle.judging.specs.Wanted as C
 
 -- ---- how the checker stands to what was given
 

@@ -1,13 +1,16 @@
 -- `sharefeed::told` meets its contract. Assumes nothing.
-use lib.Seq.{length-take-le, take-all}
-use native.Mathlib.Omega.{arith}
-use mathlib.Core.Path.{sym}
+use mathlib.Core.Path.{refl, sym}
+use denote.Ref.{now}
+use lib.Seq.{length-take-le}
 use borrow.Author.Needs.{needs}
 use Rattle.sharefeed.proofs.told.Statement.{statement}
 use Rattle.sharefeed.proofs.told.Tie as tie
 
+at-most-requires : tie.Need-at-most-requires
+at-most-requires c κs = search needs
+
 slice-aggregate-line : tie.Need-slice-aggregate-line
-slice-aggregate-line c = sym (length-take-le _ _ (omega arith))
+slice-aggregate-line c = sym (length-take-le _ _ (c .before .at-most .ensures .0))
 
 line-requires : tie.Need-line-requires
 line-requires c κs = search needs
@@ -22,35 +25,16 @@ same-length-3 : tie.Need-same-length-3
 same-length-3 c = search needs
 
 returns : tie.Need-returns
-returns c = search needs
-
-line-requires-2 : tie.Need-line-requires-2
-line-requires-2 c κs = search needs
-
-same-length-4 : tie.Need-same-length-4
-same-length-4 c = search needs
-
-same-length-5 : tie.Need-same-length-5
-same-length-5 c = search needs
-
-same-length-6 : tie.Need-same-length-6
-same-length-6 c = search needs
-
-returns-2 : tie.Need-returns-2
-returns-2 c = rw (take-all _ _ (c .before .before .before .before .before .before .before .before .if1 .left)) (c .before .before .before .before .line2 .ensures)
+returns c = rw (← c .before .before .before .before .before .before .before .before .before .at-most .ensures .1 (now (c .before .before .before .before .before .before .before .before .before .before .before .before .args .bytes)) refl) (c .before .before .before .before .line .ensures)
 
 pub told-spec : {M : Type 1} → statement M
 told-spec =
     tie.close
     (tie.spec
+    at-most-requires
     slice-aggregate-line
     line-requires
     same-length
     same-length-2
     same-length-3
-    returns
-    line-requires-2
-    same-length-4
-    same-length-5
-    same-length-6
-    returns-2)
+    returns)

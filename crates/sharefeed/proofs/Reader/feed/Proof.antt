@@ -1,14 +1,14 @@
 -- `sharefeed::Reader::feed` meets its contract. The invariant: what is left of the block leads from here to where the whole block leads from the start. Assumes nothing.
-use Rattle.sharefeed.proofs.Stepping.{at-end}
-use Rattle.sharefeed.specs.Reader.{progress, feedOf}
-use Rattle.checking.specs.Kept.{keeping}
-use Rattle.lines.specs.Handing.{afterBytes}
-use lib.ListN.{length, drop, drop-of-length-le}
-use mathlib.Core.List.{List}
-use mathlib.Core.Path.{_≡_, refl, sym, ap, _∙_}
-use Prim.Native.Nat.{ℕ, _-_, _≤_}
-use borrow.Author.Needs.{needs}
+use denote.Ref.{now}
 use native.Mathlib.Omega.{arith}
+use borrow.Author.Needs.{needs}
+use Prim.Native.Nat.{_-_, _≤_}
+use mathlib.Core.Path.{_≡_, refl, _∙_}
+use lib.ListN.{length, drop, drop-of-length-le}
+use Rattle.judging.specs.Kept.{keeping}
+use Rattle.checking.specs.Checker.{standing}
+use Rattle.sharefeed.specs.Reader.{progress, feedOf}
+use Rattle.sharefeed.proofs.Stepping.{at-end, part-of-block}
 use Rattle.sharefeed.proofs.Reader.feed.Statement.{statement}
 use Rattle.sharefeed.proofs.Reader.feed.Tie as tie
 
@@ -23,23 +23,41 @@ abbrev μ-loop : tie.MeasureT-loop
 loop-holds : tie.Need-loop-holds Inv-loop μ-loop
 loop-holds c = (omega arith, refl, refl, refl, refl)
 
-step-requires : tie.Need-step-requires Inv-loop μ-loop
-step-requires c κs = c .before .before .before .loop-test .taken
+sub-gather : tie.Need-sub-gather Inv-loop μ-loop
+sub-gather c = search (needs, c .loop-test .taken)
+
+part-gather-start : tie.Need-part-gather-start Inv-loop μ-loop
+part-gather-start c = search (needs, c .loop-test .taken)
+
+part-gather-end : tie.Need-part-gather-end Inv-loop μ-loop
+part-gather-end c = search needs
+
+gather-requires : tie.Need-gather-requires Inv-loop μ-loop
+gather-requires c κs = search needs
+
+after-requires : tie.Need-after-requires Inv-loop μ-loop
+after-requires c κs = search needs
 
 add-i : tie.Need-add-i Inv-loop μ-loop
 add-i c =
-    let at-step = c .before .before .before .before .before .before in
-    let start = at-step .before .before .before .before .before .before .before .before in
-    omega (arith, at-step .step .ensures .within, start .good)
+    let l = c .before .before .before .before .before .before .before .before .before .before .before .before .loop in
+    let s = standing (l .reader .checker) (keeping (l .gaps) (l .surpluses) (l .shares)) in
+    let step = part-of-block (l .reader .gatherer) s (now (c .before .before .before .before .before .before .before .before .before .before .before .before .before .before .before .args .block)) (l .i) (c .before .before .before .before .before .before .before .before .before .gather .result) (c .before .before .before .before .before .before .before .before .before .before .before .loop-test .taken) (c .before .before .before .before .before .before .before .before .before .gather .ensures) (c .before .before .before .before .before .after .ensures) in
+    omega (arith, step .within, c .before .before .before .before .before .before .before .before .before .before .before .before .before .before .before .good)
 
 loop-less : tie.Need-loop-less Inv-loop μ-loop
-loop-less c = omega (arith, c .before .before .before .before .before .before .step .ensures .some, c .before .before .before .before .before .before .step .ensures .within)
+loop-less c =
+    let l = c .before .before .before .before .before .before .before .before .before .before .before .before .loop in
+    let s = standing (l .reader .checker) (keeping (l .gaps) (l .surpluses) (l .shares)) in
+    let step = part-of-block (l .reader .gatherer) s (now (c .before .before .before .before .before .before .before .before .before .before .before .before .before .before .before .args .block)) (l .i) (c .before .before .before .before .before .before .before .before .before .gather .result) (c .before .before .before .before .before .before .before .before .before .before .before .loop-test .taken) (c .before .before .before .before .before .before .before .before .before .gather .ensures) (c .before .before .before .before .before .after .ensures) in
+    omega (arith, step .some, step .within)
 
 loop-again : tie.Need-loop-again Inv-loop μ-loop
 loop-again c =
-    let inv = c .before .before .before .before .before .before .before .before .before .before .before .loop .inv in
-    let step = c .before .before .before .before .before .before .step .ensures in
-    (omega (arith, step .within), inv .1 ∙ step .is, search (needs, inv .2), search (needs, inv .3), search (needs, inv .4))
+    let l = c .before .before .before .before .before .before .before .before .before .before .before .before .loop in
+    let s = standing (l .reader .checker) (keeping (l .gaps) (l .surpluses) (l .shares)) in
+    let step = part-of-block (l .reader .gatherer) s (now (c .before .before .before .before .before .before .before .before .before .before .before .before .before .before .before .args .block)) (l .i) (c .before .before .before .before .before .before .before .before .before .gather .result) (c .before .before .before .before .before .before .before .before .before .before .before .loop-test .taken) (c .before .before .before .before .before .before .before .before .before .gather .ensures) (c .before .before .before .before .before .after .ensures) in
+    (omega (arith, step .within), l .inv .1 ∙ step .is, search (needs, l .inv .2), search (needs, l .inv .3), search (needs, l .inv .4))
 
 same-length : tie.Need-same-length Inv-loop μ-loop
 same-length c = c .before .loop .inv .2
@@ -51,9 +69,7 @@ same-length-3 : tie.Need-same-length-3 Inv-loop μ-loop
 same-length-3 c = c .before .loop .inv .4
 
 returns : tie.Need-returns Inv-loop μ-loop
-returns c =
-    let inv = c .before .loop .inv in
-    inv .1 ∙ at-end _ _ _ (drop-of-length-le _ (c .loop-test .left))
+returns c = c .before .loop .inv .1 ∙ at-end _ _ _ (drop-of-length-le _ (c .loop-test .left))
 
 pub feed-spec : {M : Type 1} → statement M
 feed-spec =
@@ -62,7 +78,11 @@ feed-spec =
     Inv-loop
     μ-loop
     loop-holds
-    step-requires
+    sub-gather
+    part-gather-start
+    part-gather-end
+    gather-requires
+    after-requires
     add-i
     loop-less
     loop-again

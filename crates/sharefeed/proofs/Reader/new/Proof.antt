@@ -3,8 +3,6 @@ use Rattle.sharefeed.specs.Reader.{emptyReader}
 use borrow.Author.Needs.{needs}
 use Rattle.sharefeed.proofs.Reader.new.Statement.{statement}
 use Rattle.sharefeed.proofs.Reader.new.Tie as tie
-use Rattle.checking.proofs.checker.Checker.new.Reads as checker-Checker-new-reads
-use Rattle.lines.proofs.Gatherer.new.Reads as Gatherer-new-reads
 
 new-requires : tie.Need-new-requires
 new-requires c κs = search needs
@@ -12,9 +10,12 @@ new-requires c κs = search needs
 new-requires-2 : tie.Need-new-requires-2
 new-requires-2 c κs = search needs
 
+with-requires : tie.Need-with-requires
+with-requires c κs = search needs
+
 returns : tie.Need-returns
 unfolding emptyReader
-returns c = rw (c .before .new .ensures, c .new2 .ensures)
+returns c = rw (c .with .ensures, c .before .before .new .ensures, c .before .new2 .ensures)
 
 pub new-spec : {M : Type 1} → statement M
-new-spec = tie.close (tie.spec new-requires new-requires-2 returns)
+new-spec = tie.close (tie.spec new-requires new-requires-2 with-requires returns)

@@ -1,6 +1,6 @@
 -- `checking::checker::Checker::finish` meets its contract. Assumes nothing.
 use denote.Ref.{now}
-use Rattle.checking.specs.Kept.{keeping}
+use Rattle.judging.specs.Kept.{keeping}
 use Rattle.checking.specs.Checker.{standing, finishText}
 use Rattle.checking.proofs.AnswerLaws.{finish-parts}
 use borrow.Author.Needs.{needs}

@@ -1,7 +1,7 @@
 -- `checking::checker::Checker::next` meets its contract. Assumes nothing.
 use mathlib.Core.Path.{_∙_}
 use denote.Ref.{now}
-use Rattle.checking.specs.Kept.{keeping}
+use Rattle.judging.specs.Kept.{keeping}
 use Rattle.reading.specs.Share.{askedOf}
 use Rattle.checking.proofs.AnswerLaws.{next-parts}
 use borrow.Author.Needs.{needs}

@@ -1,7 +1,7 @@
 -- `checking::checker::Checker::quarter` meets its contract. Assumes nothing.
 use mathlib.Core.Path.{_∙_}
 use denote.Ref.{now}
-use Rattle.checking.specs.Kept.{keeping}
+use Rattle.judging.specs.Kept.{keeping}
 use Rattle.checking.proofs.AnswerLaws.{quarter-parts}
 use borrow.Author.Needs.{needs}
 use Rattle.checking.proofs.checker.Checker.quarter.Statement.{statement}

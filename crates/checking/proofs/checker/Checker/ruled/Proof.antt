@@ -3,9 +3,9 @@ use mathlib.Core.Path.{_≡_, _∙_}
 use denote.Ref.{now}
 use borrow.Author.Tests.{eq-eqb, ne-eqb}
 use Rattle.settlement.specs.Run.{endedOf}
-use Rattle.checking.specs.Kept.{keeping}
-use Rattle.checking.specs.Wanted.{wantedIn}
-use Rattle.checking.specs.Judged.{judgedOf}
+use Rattle.judging.specs.Kept.{keeping}
+use Rattle.judging.specs.Wanted.{wantedIn}
+use Rattle.judging.specs.Judged.{judgedOf}
 use Rattle.checking.specs.Checker.{ruledText}
 use borrow.Author.Needs.{needs}
 use Rattle.checking.proofs.checker.Checker.ruled.Statement.{statement}

@@ -1,0 +1,3 @@
+pub mod Kept
+pub mod Wanted
+pub mod Judged
