@@ -122,7 +122,9 @@ fn next(
 // What the desk makes of it.
 fn told_of(desk: Desk, found: Found, setpoints: &[i32], actuals: &[i32], out: &mut [u8]) -> Told
     requires { ⌜ (found .samples ≤ length (now setpoints)) × (found .samples ≤ length (now actuals)) ⌝ }
-    ensures { λ r. ⌜ Tells (now (out .entry)) desk (turnBy desk found (samplesIn (take (found .samples) (now (setpoints .entry))) (take (found .samples) (now (actuals .entry))))) r (now (out .exit)) ⌝ }
+    ensures { λ r. ⌜ Tells (now (out .entry)) desk
+        (turnBy desk found (samplesIn (take (found .samples) (now (setpoints .entry))) (take (found .samples) (now (actuals .entry)))))
+        r (now (out .exit)) ⌝ }
 {
     let n = found.samples;
     if 0 < n {

@@ -30,7 +30,8 @@ ghost use Rattle.mending.specs.declared.mender.Stage.the-variants.{Close
 ghost use Rattle.mending.specs.declared.mender.Sorted.the-variants.{Good};
 ghost use Rattle.mending.specs.Mending.{itemsText};
 ghost use Rattle.mending.specs.Mender.{Turns, emptyMender, openedBy, sortedAt, holeRefusal, sortedRefusal, rowRefusal, endRefusal, rowItems, restItems};
-ghost use Rattle.mending.specs.Mender.{earlierThan, droppedAt, takenAt, withRow, refusedTurn, openTurn, sortedTurn, rowTurn, endTurn, firstTurn, nextTurn, lineTurn, finishTurn, atStage, openAt, closedAt};
+ghost use Rattle.mending.specs.Mender.{earlierThan, droppedAt, takenAt, withRow, refusedTurn, openTurn, sortedTurn, rowTurn};
+ghost use Rattle.mending.specs.Mender.{endTurn, firstTurn, nextTurn, lineTurn, finishTurn, atStage, openAt, closedAt};
 
 // Before the header; while lines are taken; after the end or a refusal, when nothing is read any more.
 pub enum Stage {

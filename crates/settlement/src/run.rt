@@ -35,7 +35,8 @@ ghost use Prim.Native.Nat.{_<_};
 ghost use Rattle.records.specs.Account.{noAccount};
 ghost use Rattle.records.specs.Tape.{noTape, samplesIn};
 ghost use Rattle.settlement.specs.Many.{roomOf, manyOf};
-ghost use Rattle.settlement.specs.Run.{freshRun, noRun, runOf, openedOf, untouched, lacksSetpoints, withSetpoint, withBoundsOf, withSetpointOf, contractWrong, contractedOf, sampledOf, quarterIn, settledOf, takenOf, endedOf, headingOf};
+ghost use Rattle.settlement.specs.Run.{freshRun, noRun, runOf, openedOf, untouched, lacksSetpoints, withSetpoint, withBoundsOf};
+ghost use Rattle.settlement.specs.Run.{withSetpointOf, contractWrong, contractedOf, sampledOf, quarterIn, settledOf, takenOf, endedOf, headingOf};
 
 // The past is the channel as it stands where the quarter hour at hand began, and the load tells how much of a block it still lacks; the tape has that
 // quarter hour's samples.

@@ -25,7 +25,11 @@ same-length-3 : tie.Need-same-length-3
 same-length-3 c = search needs
 
 returns : tie.Need-returns
-returns c = rw (← c .before .before .before .before .before .before .before .before .before .at-most .ensures .1 (now (c .before .before .before .before .before .before .before .before .before .before .before .before .args .bytes)) refl) (c .before .before .before .before .line .ensures)
+returns c =
+    let at-line = c .before .before .before .before in
+    let at-at-most = at-line .before .before .before .before .before in
+    let start = at-at-most .before .before .before in
+    rw (← at-at-most .at-most .ensures .1 (now (start .args .bytes)) refl) (at-line .line .ensures)
 
 pub told-spec : {M : Type 1} → statement M
 told-spec =

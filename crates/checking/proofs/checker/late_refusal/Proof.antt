@@ -30,10 +30,14 @@ share-refusal-requires : tie.Need-share-refusal-requires
 share-refusal-requires c κs = search needs
 
 returns-2 : tie.Need-returns-2
-returns-2 c = (
-  rw (c .before .before .before .before .before .asked2 .given .1) (c .share-refusal .ensures .0 ∙ rw (c .before .before .before .books .ensures, c .before .before .quarters-of .ensures, c .before .whose .ensures)),
-  c .share-refusal .ensures .1,
-)
+returns-2 c =
+    let at-whose = c .before in
+    let at-quarters-of = at-whose .before in
+    let at-books = at-quarters-of .before in
+    let at-asked2 = at-books .before .before in (
+      rw (at-asked2 .asked2 .given .1) (c .share-refusal .ensures .0 ∙ rw (at-books .books .ensures, at-quarters-of .quarters-of .ensures, at-whose .whose .ensures)),
+      c .share-refusal .ensures .1,
+    )
 
 pub late-refusal-spec : {M : Type 1} → statement M
 late-refusal-spec =

@@ -25,11 +25,16 @@ same-length c = search needs
 
 returns : tie.Need-returns
 returns c =
-    let a = c .before .before .before .before .before .before .before .args in
-    let kept = rw (back32 {z = c .before .before .before .kwh-of .result} (c .before .before .before .kwh-of .ok)) at (c .before .stage-after .ensures .1) in
+    let at-stage-after = c .before in
+    let at-kwh-of = at-stage-after .before .before in
+    let at-late-refusal = at-kwh-of .before in
+    let at-read-asked = at-late-refusal .before in
+    let start = at-read-asked .before .before in
+    let a = start .args in
+    let kept = rw (back32 {z = at-kwh-of .kwh-of .result} (at-kwh-of .kwh-of .ok)) at (at-stage-after .stage-after .ensures .1) in
     λ gaps surpluses.
     later-parts gaps surpluses (now (a .shares)) (a .run) (a .number) (a .given) (now (a .line)) (askedOf (now (a .line)))
-    ∙ rw (c .before .stage-after .ensures .0, kept, c .before .before .before .kwh-of .ensures, c .before .before .before .before .late-refusal .ensures .0, c .before .before .before .before .before .read-asked .ensures)
+    ∙ rw (at-stage-after .stage-after .ensures .0, kept, at-kwh-of .kwh-of .ensures, at-late-refusal .late-refusal .ensures .0, at-read-asked .read-asked .ensures)
 
 pub later-spec : {M : Type 1} → statement M
 later-spec =

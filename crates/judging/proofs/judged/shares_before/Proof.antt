@@ -32,24 +32,37 @@ enum-told c = search needs
 
 returns : tie.Need-returns
 returns c =
-    let few : c .before .before .before .before .held .result + c .before .before .held2 .result ≤ 64 = omega (arith, c .before .before .before .before .held .ensures .few, c .before .before .held2 .ensures .few) in
-    let day : c .before .before .before .before .before .before .args .quarter ≤ 255 = omega (arith, c .before .before .before .before .before .before .fits .quarter) in
-    (rw (c .enum-told .given .1, ← c .before .before .before .before .before .book .ensures, ← c .before .before .before .book2 .ensures, ← c .before .before .before .before .held .ensures .is, ← c .before .before .held2 .ensures .is), omega (arith, mul-le-mul day few))
+    let at-held2 = c .before .before in
+    let at-book2 = at-held2 .before in
+    let at-held = at-book2 .before in
+    let at-book = at-held .before in
+    let start = at-book .before in
+    let few : at-held .held .result + at-held2 .held2 .result ≤ 64 = omega (arith, at-held .held .ensures .few, at-held2 .held2 .ensures .few) in
+    let day : start .args .quarter ≤ 255 = omega (arith, start .fits .quarter) in
+    (rw (c .enum-told .given .1, ← at-book .book .ensures, ← at-book2 .book2 .ensures, ← at-held .held .ensures .is, ← at-held2 .held2 .ensures .is), omega (arith, mul-le-mul day few))
 
 enum-told-2 : tie.Need-enum-told-2
 enum-told-2 c = search needs
 
 add-result : tie.Need-add-result
 add-result c =
-    let few : c .before .before .before .before .held .result + c .before .before .held2 .result ≤ 64 = omega (arith, c .before .before .before .before .held .ensures .few, c .before .before .held2 .ensures .few) in
-    let day : c .before .before .before .before .before .before .args .quarter ≤ 255 = omega (arith, c .before .before .before .before .before .before .fits .quarter) in
+    let at-held2 = c .before .before in
+    let at-held = at-held2 .before .before in
+    let start = at-held .before .before in
+    let few : at-held .held .result + at-held2 .held2 .result ≤ 64 = omega (arith, at-held .held .ensures .few, at-held2 .held2 .ensures .few) in
+    let day : start .args .quarter ≤ 255 = omega (arith, start .fits .quarter) in
     omega (arith, mul-le-mul day few)
 
 returns-2 : tie.Need-returns-2
 returns-2 c =
-    let few : c .before .before .before .before .held .result + c .before .before .held2 .result ≤ 64 = omega (arith, c .before .before .before .before .held .ensures .few, c .before .before .held2 .ensures .few) in
-    let day : c .before .before .before .before .before .before .args .quarter ≤ 255 = omega (arith, c .before .before .before .before .before .before .fits .quarter) in
-    (rw (c .enum-told2 .given .1, ← c .before .before .before .before .before .book .ensures, ← c .before .before .before .book2 .ensures, ← c .before .before .before .before .held .ensures .is, ← c .before .before .held2 .ensures .is), omega (arith, mul-le-mul day few))
+    let at-held2 = c .before .before in
+    let at-book2 = at-held2 .before in
+    let at-held = at-book2 .before in
+    let at-book = at-held .before in
+    let start = at-book .before in
+    let few : at-held .held .result + at-held2 .held2 .result ≤ 64 = omega (arith, at-held .held .ensures .few, at-held2 .held2 .ensures .few) in
+    let day : start .args .quarter ≤ 255 = omega (arith, start .fits .quarter) in
+    (rw (c .enum-told2 .given .1, ← at-book .book .ensures, ← at-book2 .book2 .ensures, ← at-held .held .ensures .is, ← at-held2 .held2 .ensures .is), omega (arith, mul-le-mul day few))
 
 pub shares-before-spec : {M : Type 1} → statement M
 shares-before-spec =

@@ -34,10 +34,15 @@ same-length-2 c = search needs
 returns-2 : tie.Need-returns-2
 unfolding withSheets
 returns-2 c =
-    let a = c .before .before .before .before .before .before .before .before .before .before .before .before .before .before .before .args in
+    let at-keep-row2 = c .before .before .before in
+    let at-keep-row = at-keep-row2 .before .before .before .before .before .before in
+    let at-if1 = at-keep-row .before .before .before in
+    let at-number = at-if1 .before in
+    let start = at-number .before .before in
+    let a = start .args in
     λ shares.
-    rw (none-refused {refusal = a .refusal} (c .before .before .before .before .before .before .before .before .before .before .before .before .before .number .ensures) refl (c .before .before .before .before .before .before .before .before .before .before .before .before .if1 .left))
-    (ap (λ (k : Kept). withRow k (a .quarter * 2 + 1) (a .sheets .negative)) (c .before .before .before .before .before .before .before .before .before .keep-row .ensures shares) ∙ c .before .before .before .keep-row2 .ensures shares)
+    rw (none-refused {refusal = a .refusal} (at-number .number .ensures) refl (at-if1 .if1 .left))
+    (ap (λ (k : Kept). withRow k (a .quarter * 2 + 1) (a .sheets .negative)) (at-keep-row .keep-row .ensures shares) ∙ at-keep-row2 .keep-row2 .ensures shares)
 
 pub keep-spec : {M : Type 1} → statement M
 keep-spec =

@@ -40,23 +40,39 @@ after-requires c κs = search needs
 
 add-i : tie.Need-add-i Inv-loop μ-loop
 add-i c =
-    let l = c .before .before .before .before .before .before .before .before .before .before .before .before .loop in
+    let at-after = c .before .before .before .before .before in
+    let at-gather = at-after .before .before .before .before in
+    let at-test = at-gather .before .before in
+    let start = at-test .before .before .before .before in
+    let l = at-test .before .loop in
     let s = standing (l .reader .checker) (keeping (l .gaps) (l .surpluses) (l .shares)) in
-    let step = part-of-block (l .reader .gatherer) s (now (c .before .before .before .before .before .before .before .before .before .before .before .before .before .before .before .args .block)) (l .i) (c .before .before .before .before .before .before .before .before .before .gather .result) (c .before .before .before .before .before .before .before .before .before .before .before .loop-test .taken) (c .before .before .before .before .before .before .before .before .before .gather .ensures) (c .before .before .before .before .before .after .ensures) in
-    omega (arith, step .within, c .before .before .before .before .before .before .before .before .before .before .before .before .before .before .before .good)
+    let step =
+    part-of-block (l .reader .gatherer) s (now (start .args .block)) (l .i) (at-gather .gather .result) (at-test .loop-test .taken)
+    (at-gather .gather .ensures) (at-after .after .ensures) in
+    omega (arith, step .within, start .good)
 
 loop-less : tie.Need-loop-less Inv-loop μ-loop
 loop-less c =
-    let l = c .before .before .before .before .before .before .before .before .before .before .before .before .loop in
+    let at-after = c .before .before .before .before .before in
+    let at-gather = at-after .before .before .before .before in
+    let at-test = at-gather .before .before in
+    let start = at-test .before .before .before .before in
+    let l = at-test .before .loop in
     let s = standing (l .reader .checker) (keeping (l .gaps) (l .surpluses) (l .shares)) in
-    let step = part-of-block (l .reader .gatherer) s (now (c .before .before .before .before .before .before .before .before .before .before .before .before .before .before .before .args .block)) (l .i) (c .before .before .before .before .before .before .before .before .before .gather .result) (c .before .before .before .before .before .before .before .before .before .before .before .loop-test .taken) (c .before .before .before .before .before .before .before .before .before .gather .ensures) (c .before .before .before .before .before .after .ensures) in
+    let step =
+    part-of-block (l .reader .gatherer) s (now (start .args .block)) (l .i) (at-gather .gather .result) (at-test .loop-test .taken)
+    (at-gather .gather .ensures) (at-after .after .ensures) in
     omega (arith, step .some, step .within)
 
 loop-again : tie.Need-loop-again Inv-loop μ-loop
 loop-again c =
     let l = c .before .before .before .before .before .before .before .before .before .before .before .before .loop in
     let s = standing (l .reader .checker) (keeping (l .gaps) (l .surpluses) (l .shares)) in
-    let step = part-of-block (l .reader .gatherer) s (now (c .before .before .before .before .before .before .before .before .before .before .before .before .before .before .before .args .block)) (l .i) (c .before .before .before .before .before .before .before .before .before .gather .result) (c .before .before .before .before .before .before .before .before .before .before .before .loop-test .taken) (c .before .before .before .before .before .before .before .before .before .gather .ensures) (c .before .before .before .before .before .after .ensures) in
+    let step =
+    part-of-block (l .reader .gatherer) s (now (c .before .before .before .before .before .before .before .before .before .before .before .before .before .before .before .args .block))
+    (l .i) (c .before .before .before .before .before .before .before .before .before .gather .result) (c .before .before .before .before .before .before .before .before .before .before .before .loop-test .taken)
+    (c .before .before .before .before .before .before .before .before .before .gather .ensures) (c .before .before .before .before .before .after .ensures)
+    in
     (omega (arith, step .within), l .inv .1 ∙ step .is, search (needs, l .inv .2), search (needs, l .inv .3), search (needs, l .inv .4))
 
 same-length : tie.Need-same-length Inv-loop μ-loop

@@ -27,7 +27,13 @@ same-length-2 : tie.Need-same-length-2
 same-length-2 c = search needs
 
 returns-2 : tie.Need-returns-2
-returns-2 c = λ shares. rw (none-refused {refusal′ = c .before .before .before .before .before .before .before .before .before .before .before .args .answer .refusal} (c .before .before .before .before .before .before .before .before .before .number .ensures) refl (c .before .before .before .before .before .before .before .before .if1 .left), c .before .before .before .before .before .before .enum-told .given .1) (c .before .before .before .quarter .ensures shares)
+returns-2 c =
+    let at-quarter = c .before .before .before in
+    let at-enum-told = at-quarter .before .before .before in
+    let at-if1 = at-enum-told .before .before in
+    let at-number = at-if1 .before in
+    let start = at-number .before .before in
+    λ shares. rw (none-refused {refusal′ = start .args .answer .refusal} (at-number .number .ensures) refl (at-if1 .if1 .left), at-enum-told .enum-told .given .1) (at-quarter .quarter .ensures shares)
 
 enum-told-2 : tie.Need-enum-told-2
 enum-told-2 c = search needs
@@ -36,7 +42,12 @@ at-requires : tie.Need-at-requires
 at-requires c κs = search needs
 
 returns-3 : tie.Need-returns-3
-returns-3 c = λ shares. rw (none-refused {refusal′ = c .before .before .before .before .before .before .args .answer .refusal} (c .before .before .before .before .number .ensures) refl (c .before .before .before .if1 .left), c .before .enum-told2 .given .1, c .at .ensures)
+returns-3 c =
+    let at-enum-told2 = c .before in
+    let at-if1 = at-enum-told2 .before .before in
+    let at-number = at-if1 .before in
+    let start = at-number .before .before in
+    λ shares. rw (none-refused {refusal′ = start .args .answer .refusal} (at-number .number .ensures) refl (at-if1 .if1 .left), at-enum-told2 .enum-told2 .given .1, c .at .ensures)
 
 enum-told-3 : tie.Need-enum-told-3
 enum-told-3 c = search needs
@@ -45,7 +56,12 @@ at-requires-2 : tie.Need-at-requires-2
 at-requires-2 c κs = search needs
 
 returns-4 : tie.Need-returns-4
-returns-4 c = λ shares. rw (none-refused {refusal′ = c .before .before .before .before .before .before .args .answer .refusal} (c .before .before .before .before .number .ensures) refl (c .before .before .before .if1 .left), c .before .enum-told3 .given .1, c .at2 .ensures)
+returns-4 c =
+    let at-enum-told3 = c .before in
+    let at-if1 = at-enum-told3 .before .before in
+    let at-number = at-if1 .before in
+    let start = at-number .before .before in
+    λ shares. rw (none-refused {refusal′ = start .args .answer .refusal} (at-number .number .ensures) refl (at-if1 .if1 .left), at-enum-told3 .enum-told3 .given .1, c .at2 .ensures)
 
 pub answered-spec : {M : Type 1} → statement M
 answered-spec =

@@ -25,9 +25,20 @@ same-length c = search needs
 returns : tie.Need-returns
 unfolding finishText
 returns c =
-    let a = c .before .before .before .before .before .before .before .before .before .before .before .args in
+    let at-print-fault = c .before .before in
+    let at-end = at-print-fault .before .before .before in
+    let at-end-at = at-end .before .before in
+    let at-wrapping-add-u64 = at-end-at .before in
+    let start = at-wrapping-add-u64 .before .before .before in
+    let a = start .args in
     let s = standing (a .self) (keeping (now (a .gaps)) (now (a .surpluses)) (now (a .shares))) in
-    rw (← c .before .before .before .before .before .before .before .before .wrapping-add-u64 .ensures, finish-parts (a .self .stage) s (c .before .before .before .before .before .before .before .before .wrapping-add-u64 .result), ← c .before .before .before .before .before .before .before .end-at .ensures, c .before .before .before .before .before .end .given .1) (c .before .before .print-fault .ensures)
+    rw (
+      ← at-wrapping-add-u64 .wrapping-add-u64 .ensures,
+      finish-parts (a .self .stage) s
+          (at-wrapping-add-u64 .wrapping-add-u64 .result),
+      ← at-end-at .end-at .ensures,
+      at-end .end .given .1,
+    ) (at-print-fault .print-fault .ensures)
 
 enum-known-end-2 : tie.Need-enum-known-end-2
 enum-known-end-2 c = search needs
@@ -41,9 +52,20 @@ same-length-2 c = search needs
 returns-2 : tie.Need-returns-2
 unfolding finishText
 returns-2 c =
-    let a = c .before .before .before .before .before .before .before .before .before .before .before .args in
+    let at-ruled = c .before .before in
+    let at-end2 = at-ruled .before .before .before in
+    let at-end-at = at-end2 .before .before in
+    let at-wrapping-add-u64 = at-end-at .before in
+    let start = at-wrapping-add-u64 .before .before .before in
+    let a = start .args in
     let s = standing (a .self) (keeping (now (a .gaps)) (now (a .surpluses)) (now (a .shares))) in
-    rw (← c .before .before .before .before .before .before .before .before .wrapping-add-u64 .ensures, finish-parts (a .self .stage) s (c .before .before .before .before .before .before .before .before .wrapping-add-u64 .result), ← c .before .before .before .before .before .before .before .end-at .ensures, c .before .before .before .before .before .end2 .given .1) (c .before .before .ruled .ensures)
+    rw (
+      ← at-wrapping-add-u64 .wrapping-add-u64 .ensures,
+      finish-parts (a .self .stage) s
+          (at-wrapping-add-u64 .wrapping-add-u64 .result),
+      ← at-end-at .end-at .ensures,
+      at-end2 .end2 .given .1,
+    ) (at-ruled .ruled .ensures)
 
 pub finish-spec : {M : Type 1} → statement M
 finish-spec =

@@ -16,7 +16,11 @@ open-requires : tie.Need-open-requires
 open-requires c κs = search needs
 
 returns : tie.Need-returns
-returns c = rw (first-parts (c .before .before .before .before .before .before .args .run) (c .before .before .before .before .before .before .args .number) (askedOf (now (c .before .before .before .before .before .before .args .line))), ← c .before .before .before .before .opens .ensures, c .before .before .wanted .given .1) (c .«open» .ensures)
+returns c =
+    let at-wanted = c .before .before in
+    let at-opens = at-wanted .before .before in
+    let start = at-opens .before .before in
+    rw (first-parts (start .args .run) (start .args .number) (askedOf (now (start .args .line))), ← at-opens .opens .ensures, at-wanted .wanted .given .1) (c .«open» .ensures)
 
 enum-known-wanted-2 : tie.Need-enum-known-wanted-2
 enum-known-wanted-2 c = search needs
@@ -25,7 +29,11 @@ stopped-requires : tie.Need-stopped-requires
 stopped-requires c κs = search needs
 
 returns-2 : tie.Need-returns-2
-returns-2 c = rw (first-parts (c .before .before .before .before .before .before .args .run) (c .before .before .before .before .before .before .args .number) (askedOf (now (c .before .before .before .before .before .before .args .line))), ← c .before .before .before .before .opens .ensures, c .before .before .wanted2 .given .1) (c .stopped .ensures)
+returns-2 c =
+    let at-wanted2 = c .before .before in
+    let at-opens = at-wanted2 .before .before in
+    let start = at-opens .before .before in
+    rw (first-parts (start .args .run) (start .args .number) (askedOf (now (start .args .line))), ← at-opens .opens .ensures, at-wanted2 .wanted2 .given .1) (c .stopped .ensures)
 
 pub first-spec : {M : Type 1} → statement M
 first-spec =

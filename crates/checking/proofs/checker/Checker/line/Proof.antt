@@ -29,7 +29,11 @@ same-length-2 c = search needs
 
 returns-2 : tie.Need-returns-2
 unfolding lineTurn
-returns-2 c = rw (c .before .before .before .before .before .before .enum-told2 .given .1) (c .before .before .before .next .ensures (now (c .before .before .before .before .before .before .before .before .before .before .args .shares)))
+returns-2 c =
+    let at-next = c .before .before .before in
+    let at-enum-told2 = at-next .before .before .before in
+    let start = at-enum-told2 .before .before .before .before in
+    rw (at-enum-told2 .enum-told2 .given .1) (at-next .next .ensures (now (start .args .shares)))
 
 enum-known-stage : tie.Need-enum-known-stage
 enum-known-stage c = search needs
@@ -45,7 +49,11 @@ same-length-3 c = search needs
 
 returns-3 : tie.Need-returns-3
 unfolding lineTurn
-returns-3 c = rw (c .before .before .before .before .before .stage .given .1, c .at .ensures) (c .before .before .later .ensures (now (c .before .before .before .before .before .before .before .before .before .args .gaps)) (now (c .before .before .before .before .before .before .before .before .before .args .surpluses)))
+returns-3 c =
+    let at-later = c .before .before in
+    let at-stage = at-later .before .before .before in
+    let start = at-stage .before .before .before .before in
+    rw (at-stage .stage .given .1, c .at .ensures) (at-later .later .ensures (now (start .args .gaps)) (now (start .args .surpluses)))
 
 enum-told-3 : tie.Need-enum-told-3
 enum-told-3 c = search needs

@@ -28,10 +28,15 @@ same-length-2 c = search needs
 
 returns : tie.Need-returns
 returns c =
-    let a = c .before .before .before .before .before .before .before .before .before .before .before .args in
+    let at-answered = c .before .before .before in
+    let at-what-follows = at-answered .before .before .before in
+    let at-answer-to = at-what-follows .before in
+    let at-read-asked = at-answer-to .before in
+    let start = at-read-asked .before .before .before in
+    let a = start .args in
     λ shares.
     next-parts (keeping (now (a .gaps)) (now (a .surpluses)) shares) (a .run) (a .number) (now (a .line)) (askedOf (now (a .line)))
-    ∙ rw (← c .before .before .before .before .before .before .before .before .read-asked .ensures, ← c .before .before .before .before .before .before .before .answer-to .ensures, ← c .before .before .before .before .before .before .what-follows .ensures) (c .before .before .before .answered .ensures shares)
+    ∙ rw (← at-read-asked .read-asked .ensures, ← at-answer-to .answer-to .ensures, ← at-what-follows .what-follows .ensures) (at-answered .answered .ensures shares)
 
 pub next-spec : {M : Type 1} → statement M
 next-spec =

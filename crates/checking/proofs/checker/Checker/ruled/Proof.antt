@@ -29,10 +29,16 @@ same-length c = search needs
 returns : tie.Need-returns
 unfolding ruledText
 returns c =
-    let a = c .before .before .before .before .before .before .before .before .before .before .args in
-    let p = c .before .before .print-refusal .ensures in
-    let same : c .before .before .before .before .before .wanted .result ≡ wantedIn (a .run .books) (endedOf (a .run) .quarters) = c .before .before .before .before .before .wanted .ensures ∙ rw (c .before .before .before .before .before .before .before .books .ensures, c .before .before .before .before .before .before .quarters-of .ensures) in
-    rw (← same, ne-eqb _ _ (c .before .before .before .before .if1 .taken)) (record { answer = p .0; bytes = p .1 .0; room = p .1 .1 })
+    let at-print-refusal = c .before .before in
+    let at-if1 = at-print-refusal .before .before in
+    let at-wanted = at-if1 .before in
+    let at-quarters-of = at-wanted .before in
+    let at-books = at-quarters-of .before in
+    let start = at-books .before .before .before in
+    let a = start .args in
+    let p = at-print-refusal .print-refusal .ensures in
+    let same : at-wanted .wanted .result ≡ wantedIn (a .run .books) (endedOf (a .run) .quarters) = at-wanted .wanted .ensures ∙ rw (at-books .books .ensures, at-quarters-of .quarters-of .ensures) in
+    rw (← same, ne-eqb _ _ (at-if1 .if1 .taken)) (record { answer = p .0; bytes = p .1 .0; room = p .1 .1 })
 
 judged-requires : tie.Need-judged-requires
 judged-requires c κs = search needs
@@ -46,12 +52,19 @@ same-length-2 c = search needs
 returns-2 : tie.Need-returns-2
 unfolding ruledText
 returns-2 c =
-    let a = c .before .before .before .before .before .before .before .before .before .before .before .args in
-    let p = c .before .before .print-verdict .ensures in
-    let same : c .before .before .before .before .before .before .wanted .result ≡ wantedIn (a .run .books) (endedOf (a .run) .quarters) = c .before .before .before .before .before .before .wanted .ensures ∙ rw (c .before .before .before .before .before .before .before .before .books .ensures, c .before .before .before .before .before .before .before .quarters-of .ensures) in
-    let verdict : c .before .before .before .judged .result ≡ judgedOf (a .run .books) (keeping (now (a .gaps)) (now (a .surpluses)) (now (a .shares))) (endedOf (a .run) .quarters) =
-    c .before .before .before .judged .ensures ∙ rw (c .before .before .before .before .before .before .before .before .books .ensures, c .before .before .before .before .before .before .before .quarters-of .ensures) in
-    rw (← same, eq-eqb _ _ (c .before .before .before .before .before .if1 .left), ← verdict) (record { answer = p .0; bytes = p .1 .0; room = p .1 .1 })
+    let at-print-verdict = c .before .before in
+    let at-judged = at-print-verdict .before in
+    let at-if1 = at-judged .before .before in
+    let at-wanted = at-if1 .before in
+    let at-quarters-of = at-wanted .before in
+    let at-books = at-quarters-of .before in
+    let start = at-books .before .before .before in
+    let a = start .args in
+    let p = at-print-verdict .print-verdict .ensures in
+    let same : at-wanted .wanted .result ≡ wantedIn (a .run .books) (endedOf (a .run) .quarters) = at-wanted .wanted .ensures ∙ rw (at-books .books .ensures, at-quarters-of .quarters-of .ensures) in
+    let verdict : at-judged .judged .result ≡ judgedOf (a .run .books) (keeping (now (a .gaps)) (now (a .surpluses)) (now (a .shares))) (endedOf (a .run) .quarters) =
+    at-judged .judged .ensures ∙ rw (at-books .books .ensures, at-quarters-of .quarters-of .ensures) in
+    rw (← same, eq-eqb _ _ (at-if1 .if1 .left), ← verdict) (record { answer = p .0; bytes = p .1 .0; room = p .1 .1 })
 
 pub ruled-spec : {M : Type 1} → statement M
 ruled-spec =
