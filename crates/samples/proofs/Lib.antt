@@ -3,7 +3,10 @@ pub mod DigitScan
 pub mod UnsignedForm
 pub mod PowerForm
 pub mod Joined
+pub mod FieldScan
 pub mod PairScan
+pub mod WordLaws
+pub mod FrontScan
 pub mod LineForm
 pub mod LineScan
 pub mod RecordedForm

@@ -4,7 +4,6 @@ use mathlib.Core.Path.{_≡_, refl, sym, ap, _∙_}
 use mathlib.Core.Bool.{Bool, true, false, _&&_}
 use mathlib.Core.List.{List, [], _∷_, _++_}
 use native.Mathlib.Omega.{arith}
-use native.Mathlib.Decide.{ℕ-discrete}
 use native.Mathlib.Numerals.{add-one}
 use borrow.Author.Tests.{le-leb, leb-true, eq-eqb, ne-eqb}
 use lib.ListN.{length, getD, drop}
@@ -19,7 +18,7 @@ use Rattle.fields.specs.declared.number.Digits.{Digits as Said}
 use Rattle.fields.specs.declared.number.Digits.the-variants as F
 use Rattle.fields.specs.declared.number.Number.the-variants as N
 use Rattle.vocabulary.specs.Sample.{powerInRange}
-use Rattle.samples.specs.Scan.{Standing, Unsigned, PastMinus, Names, Written, Powered}
+use Rattle.samples.specs.Scan.{Standing, Unsigned, Names, Written, Powered}
 use Rattle.samples.specs.declared.Digits.{Digits}
 use Rattle.samples.specs.declared.Whole.the-variants as W
 use Rattle.samples.specs.declared.Found.{Found}
@@ -215,14 +214,6 @@ module _ {s : List ℕ} {from : ℕ} (within : from < length s) (sign : getD s f
             let w : d .to ≡ from + length (a .bytes) = (let j : d .to ≡ from + 1 + length (m .stands .bytes) = ap (λ (t : Digits). t .to) q in omega (arith, m .bytes)) in
             rw (y, w));
       }
-
--- with or without a minus
-pub none-there : {s : List ℕ} {from to : ℕ} → from < length s → PastMinus s from to → Unsigned s to W.None → Powered s from P.None
-none-there {s} {from} {to} within p u =
-    elim (ℕ-discrete to from) [
-      | yes e ↦ plain-none (p .none e) (rw e at u)
-      | no n ↦ minus-none within (p .one n .0) (rw (p .one n .1) at u)
-    ]
 
 -- the code's numbers: a small value as a signed one, and 0 less it
 module _ {v : ℕ} (h : v ≤ 2000000) where

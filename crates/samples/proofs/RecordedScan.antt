@@ -18,7 +18,7 @@ use Rattle.samples.specs.declared.recorded.RecordedLine.{RecordedLine}
 use Rattle.samples.specs.declared.recorded.FirstRecorded.{FirstRecorded}
 use Rattle.samples.specs.declared.recorded.FirstRecorded.the-variants as R
 use Rattle.samples.proofs.CutLaws.{no-lines}
-use Rattle.samples.proofs.PairScan.{beyond, head-at, then-byte}
+use Rattle.samples.proofs.FieldScan.{beyond, head-at, then-byte}
 use Rattle.samples.proofs.LineScan.{letter-there, tab-there, past-letter, lettered}
 use Rattle.samples.proofs.RecordedForm.{Noted, noted-first, no-noted}
 

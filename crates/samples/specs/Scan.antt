@@ -69,12 +69,6 @@ pub record Unsigned (s : List ℕ) (from : ℕ) (r : Whole) : Type 0 where
   pub sound : (d : Digits) → r ≡ W.Of d → Spells s from d
   pub complete : {n : ℕ} (a : Standing s from n) → r ≡ W.Of (record { value = n; to = from + length (a .bytes) })
 
--- the place after a minus, if one stands there
-pub record PastMinus (s : List ℕ) (from to : ℕ) : Type 0 where
-  pub none : to ≡ from → getD s from 0 ≡ 45 → ⊥
-  pub one : (to ≡ from → ⊥) → (getD s from 0 ≡ 45) × (to ≡ from + 1)
-  pub stands : Ended s to
-
 -- the same under either sign
 pub record Names (s : List ℕ) (from : ℕ) (r : Found) : Type 0 where
   pub bytes : List ℕ
@@ -97,6 +91,30 @@ pub record Written (s : List ℕ) (from : ℕ) (z : ℤ) : Type 0 where
 pub record Powered (s : List ℕ) (from : ℕ) (r : Power) : Type 0 where
   pub sound : (f : Found) → r ≡ P.Of f → Names s from f
   pub complete : {z : ℤ} (a : Written s from z) → r ≡ P.Of (record { value = z; to = from + length (a .bytes) })
+
+-- a power that a byte ends
+pub record Field (s : List ℕ) (from byte : ℕ) (f : Found) : Type 0 where
+  pub bytes : List ℕ
+  pub rest : List ℕ
+  pub form : drop from s ≡ bytes ++ (byte ∷ rest)
+  pub says : numberOf bytes ≡ N.Value (f .value)
+  pub ranged : powerInRange (f .value) ≡ true
+  pub place : f .to ≡ from + length bytes
+
+pub record Fielded (s : List ℕ) (from byte : ℕ) (r : Power) : Type 0 where
+  pub sound : (f : Found) → r ≡ P.Of f → Field s from byte f
+  pub complete : {f : Found} → Field s from byte f → r ≡ P.Of f
+
+-- the row of a setpoint z: a power and an LF stand after the tab behind it
+pub record Closes (s : List ℕ) (tab : ℕ) (z : ℤ) (row : Row) : Type 0 where
+  pub end : ℕ
+  pub setpoint : row .setpoint ≡ z
+  pub actual : Field s (tab + 1) 10 (record { value = row .actual; to = end })
+  pub place : row .to ≡ end + 1
+
+pub record Closed (s : List ℕ) (tab : ℕ) (z : ℤ) (r : First) : Type 0 where
+  pub sound : (row : Row) → r ≡ R.Of row → Closes s tab z row
+  pub complete : {row : Row} → Closes s tab z row → r ≡ R.Of row
 
 -- a power, a tab, a power and an LF at a place: the end of a sample's line
 pub record Pair (s : List ℕ) (from : ℕ) (row : Row) : Type 0 where
@@ -129,7 +147,3 @@ rowOf to L.Malformed = R.Other
 unfoldable pub firstOf : ℕ → List (List ℕ) → First
 firstOf at [] = R.Other
 firstOf at (line ∷ lines) = rowOf (at + (length line + 1)) (lineOf line)
-
-pub record Began (s : List ℕ) (at : ℕ) (r : First) : Type 0 where
-  pub is : r ≡ firstOf at (linesOf (drop at s))
-  pub within : (row : Row) → r ≡ R.Of row → row .to ≤ length s
