@@ -45,29 +45,29 @@ module _ {s : List ℕ} {p byte : ℕ} {f : Found} (h : Field s p byte f) (from 
       }
 
 -- so does a setpoint of up to seven bytes, if the eight bytes up to the tab behind it are those of the line before
-module _ {s : List ℕ} {from : ℕ} {before : Front} where
-  pub not-same : Same s from before false
+module _ {s : List ℕ} {from : ℕ} {former : Front} where
+  pub not-same : Same s from former false
   not-same = record { wide = λ e. absurd (let z : _≡_ {A = ℕ} 0 1 = cc in (omega arith)); field = λ e. absurd (let z : _≡_ {A = ℕ} 0 1 = cc in (omega arith)) }
 
-  module _ (k : Kept s from before) (seven : 7 ≤ before .tab) where
-    pub width : before .from ≤ before .tab
+  module _ (k : Kept s from former) (seven : 7 ≤ former .tab) where
+    pub width : former .from ≤ former .tab
     width = omega (arith, k .field seven .place)
 
-    module _ {v w : ℕ} (few : before .tab - before .from ≤ 7) (room : from + (before .tab - before .from) < length s)
-        (here : Packed s (from + (before .tab - before .from) - 7) 8 v) (there : Packed s (before .tab - 7) 8 w) where
-      stands : v ≡ w → Field s from 9 (record { value = before .setpoint; to = from + (before .tab - before .from) })
+    module _ {v w : ℕ} (few : former .tab - former .from ≤ 7) (room : from + (former .tab - former .from) < length s)
+        (here : Packed s (from + (former .tab - former .from) - 7) 8 v) (there : Packed s (former .tab - 7) 8 w) where
+      stands : v ≡ w → Field s from 9 (record { value = former .setpoint; to = from + (former .tab - former .from) })
       stands e =
           let h = k .field seven in
-          let wide : length (h .bytes) ≡ before .tab - before .from = omega (arith, h .place) in
-          let n = before .tab - before .from in
-          let words : packed 8 s (from + n - 7) ≡ packed 8 s (before .tab - 7) = sym (here .is) ∙ e ∙ there .is in
-          let alike : (j : ℕ) → j ≤ length (h .bytes) → getD s (from + j) 0 ≡ getD s (before .from + j) 0 = λ j l.
+          let wide : length (h .bytes) ≡ former .tab - former .from = omega (arith, h .place) in
+          let n = former .tab - former .from in
+          let words : packed 8 s (from + n - 7) ≡ packed 8 s (former .tab - 7) = sym (here .is) ∙ e ∙ there .is in
+          let alike : (j : ℕ) → j ≤ length (h .bytes) → getD s (from + j) 0 ≡ getD s (former .from + j) 0 = λ j l.
           (let a : from + j ≡ from + n - 7 + (7 - n + j) = omega (arith, k .earlier, h .place) in
-          let b : before .tab - 7 + (7 - n + j) ≡ before .from + j = omega (arith, h .place) in
+          let b : former .tab - 7 + (7 - n + j) ≡ former .from + j = omega (arith, h .place) in
           ap (λ (i : ℕ). getD s i 0) a ∙ same-bytes 8 s _ _ (here .bytes) words (7 - n + j) (omega arith) ∙ ap (λ (i : ℕ). getD s i 0) b) in
           rw wide at (again h from (omega arith) alike)
 
-      pub by-words : Same s from before (eqb v w)
+      pub by-words : Same s from former (eqb v w)
       by-words = record { wide = λ e. width; field = λ e. stands (eqb-true _ _ e) }
 
 -- the front of a line

@@ -23,14 +23,14 @@ abbrev pub noFront : Front
 noFront = record { from = 0; setpoint = pos 0; tab = 0 }
 
 -- the front of a line before this one, whose setpoint stands at `from`; one whose tab has less than seven bytes before it says nothing
-pub record Kept (s : List ℕ) (from : ℕ) (before : Front) : Type 0 where
-  pub earlier : before .from ≤ from
-  pub field : 7 ≤ before .tab → Field s (before .from) 9 (record { value = before .setpoint; to = before .tab })
+pub record Kept (s : List ℕ) (from : ℕ) (former : Front) : Type 0 where
+  pub earlier : former .from ≤ from
+  pub field : 7 ≤ former .tab → Field s (former .from) 9 (record { value = former .setpoint; to = former .tab })
 
 -- where the answer is yes, the same setpoint stands here
-pub record Same (s : List ℕ) (from : ℕ) (before : Front) (r : Bool) : Type 0 where
-  pub wide : r ≡ true → before .from ≤ before .tab
-  pub field : r ≡ true → Field s from 9 (record { value = before .setpoint; to = from + (before .tab - before .from) })
+pub record Same (s : List ℕ) (from : ℕ) (former : Front) (r : Bool) : Type 0 where
+  pub wide : r ≡ true → former .from ≤ former .tab
+  pub field : r ≡ true → Field s from 9 (record { value = former .setpoint; to = from + (former .tab - former .from) })
 
 -- S, a tab, a setpoint in range and a tab at a place
 pub record Heads (s : List ℕ) (at : ℕ) (front : Front) : Type 0 where
