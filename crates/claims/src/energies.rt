@@ -17,7 +17,7 @@ ghost use Rattle.series.specs.Cuts.{piecesOf};
 ghost use Rattle.claims.specs.Powers.{samples, powersOf};
 ghost use Rattle.claims.specs.Views.{deliveredOf, sumsOf, energyHeld, lessOf, shortOf, slicesOf, portionsOf, restIn};
 ghost use Rattle.claims.specs.Blank.{noEnergies};
-ghost use Rattle.claims.specs.Room.{Level, Fitting, Fits, AllFit};
+ghost use Rattle.claims.specs.Room.{Level, Roomy, Fitting, Fits, AllFit};
 
 // The sums over a quarter hour: of what the contracts have slices of, by slice, and of the others.
 pub struct Sums {
@@ -47,65 +47,65 @@ pub struct Portions {
     pub shortfall: Slices,
 }
 
-fn no_powers() -> [u64; 900]
-    ensures { λ r. ⌜ length r ≡ 900 ⌝ }
-{
-    [0u64; 900]
-}
-
 fn no_energies() -> [Kwh; 32]
     ensures { λ r. ⌜ r ≡ noEnergies ⌝ }
 {
     [Kwh(0); 32]
 }
 
-// The pieces of what was delivered in a direction.
-fn pieces_delivered(direction: Direction, actuals: &[i32], upper: [u64; 32], count: usize) -> Pieces
-    requires { ⌜ length (now actuals) ≤ 900 ⌝ }
-    ensures { λ r. ⌜ r ≡ piecesOf (take count upper) (each (deliveredOf direction) (now (actuals .entry))) ⌝ }
+// The pieces of what was delivered in a direction, by a series that is lent.
+fn pieces_delivered(
+    direction: Direction,
+    actuals: &[i32],
+    series: &mut [u64],
+    upper: [u64; 32],
+    count: usize,
+) -> Pieces
+    requires { ⌜ length (now actuals) ≤ length (now series) ⌝ }
+    ensures { λ r. ⌜ (r ≡ piecesOf (take count upper) (each (deliveredOf direction) (now (actuals .entry)))) × (length (now (series .exit)) ≡ length (now (series .entry))) ⌝ }
 {
-    let mut series = no_powers();
-    delivered(direction, actuals, &mut series);
+    delivered(direction, actuals, series);
     let n = actuals.len();
     cut(&series[..n], upper, count)
 }
 
-// The sums of a direction, at the first `count` limits.
+// The sums of a direction, at the first `count` limits. The series are lent, since making them takes longer than a good part of what is done with them;
+// what was delivered goes where what was asked for stood, once that is cut.
 pub(crate) fn summed(
     direction: Direction,
     setpoints: &[i32],
     actuals: &[i32],
     ogas: &[i64],
     ugas: &[i64],
+    asked: &mut [u64],
+    accepted: &mut [u64],
+    required: &mut [u64],
+    inner: &mut [u64],
+    kept: &mut [u64],
     upper: [u64; 32],
     count: usize,
 ) -> Sums
-    requires { ⌜ Level (samples (now setpoints) (now actuals) (now ogas) (now ugas)) ⌝ }
+    requires { ⌜ Level (samples (now setpoints) (now actuals) (now ogas) (now ugas)) × Roomy (now asked) (now accepted) (now required) (now inner) (now kept) ⌝ }
     ensures { λ r. ⌜ (r ≡ sumsOf (powersOf direction (samples (now (setpoints .entry)) (now (actuals .entry)) (now (ogas .entry)) (now (ugas .entry)))) (take count upper))
-        × Fitting (now (setpoints .entry)) (now (actuals .entry)) (length (now (setpoints .entry))) ⌝ }
+        × (Fitting (now (setpoints .entry)) (now (actuals .entry)) (length (now (setpoints .entry)))
+        × Roomy (now (asked .exit)) (now (accepted .exit)) (now (required .exit)) (now (inner .exit)) (now (kept .exit))) ⌝ }
 {
-    let blank = no_powers();
-    let mut asked = blank;
-    let mut accepted = blank;
-    let mut required = blank;
-    let mut inner = blank;
-    let mut kept = blank;
     let seen = viewed(
         direction,
         setpoints,
         actuals,
         ogas,
         ugas,
-        &mut asked,
-        &mut accepted,
-        &mut required,
-        &mut inner,
-        &mut kept,
+        asked,
+        accepted,
+        required,
+        inner,
+        kept,
     );
     let n = seen.count;
     Sums {
         setpoint: cut(&asked[..n], upper, count),
-        actual: pieces_delivered(direction, actuals, upper, count),
+        actual: pieces_delivered(direction, actuals, asked, upper, count),
         acceptance: cut(&accepted[..n], upper, count),
         floor: cut(&required[..n], upper, count),
         inner: cut(&inner[..n], upper, count),

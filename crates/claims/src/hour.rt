@@ -17,11 +17,12 @@ use vocabulary::direction::Direction;
 use vocabulary::interval::Windows;
 ghost use mathlib.Core.Path.{_≡_};
 ghost use Prim.Native.Nat.{_≤_};
+ghost use lib.ListN.{length};
 ghost use Rattle.contracts.specs.Terms.{termsIn};
 ghost use Rattle.claims.specs.Powers.{samples, powersOf};
 ghost use Rattle.claims.specs.Claims.{energiesOf, measuredHeld};
 ghost use Rattle.claims.specs.Views.{claimsBy, energiesBy, samplesIn, measuredIn};
-ghost use Rattle.claims.specs.Room.{AllFit, Timely, Led};
+ghost use Rattle.claims.specs.Room.{AllFit, Timely, Roomy, Led};
 
 // The energies of one direction: the pool's, what no contract takes, and each contract's claim. Under-delivery and shortfall are the pool's own, and not the contracts' sums.
 pub struct Energies {
@@ -86,26 +87,51 @@ fn energies_by(sums: Sums, seconds: u64, count: usize) -> Energies
     }
 }
 
-// The energies of the samples in one direction, for the contracts of a list.
+fn no_powers() -> [u64; 900]
+    ensures { λ r. ⌜ length r ≡ 900 ⌝ }
+{
+    [0u64; 900]
+}
+
+// The energies of the samples in one direction, for the contracts of a list, by series that are lent.
 fn listed(
     direction: Direction,
     setpoints: &[i32],
     actuals: &[i32],
     ogas: &[i64],
     ugas: &[i64],
+    asked: &mut [u64],
+    accepted: &mut [u64],
+    required: &mut [u64],
+    inner: &mut [u64],
+    kept: &mut [u64],
     seconds: u64,
     book: Book,
 ) -> Energies
-    requires { ⌜ Timely (samples (now setpoints) (now actuals) (now ogas) (now ugas)) seconds ⌝ }
-    ensures { λ r. ⌜ r ≡ energiesOf seconds (powersOf direction (samples (now (setpoints .entry)) (now (actuals .entry)) (now (ogas .entry)) (now (ugas .entry)))) (termsIn book) ⌝ }
+    requires { ⌜ Timely (samples (now setpoints) (now actuals) (now ogas) (now ugas)) seconds × Roomy (now asked) (now accepted) (now required) (now inner) (now kept) ⌝ }
+    ensures { λ r. ⌜ (r ≡ energiesOf seconds (powersOf direction (samples (now (setpoints .entry)) (now (actuals .entry)) (now (ogas .entry)) (now (ugas .entry)))) (termsIn book))
+        × Roomy (now (asked .exit)) (now (accepted .exit)) (now (required .exit)) (now (inner .exit)) (now (kept .exit)) ⌝ }
 {
     let upper = limits(book.terms());
     let count = book.held();
-    let sums = summed(direction, setpoints, actuals, ogas, ugas, upper, count);
+    let sums = summed(
+        direction,
+        setpoints,
+        actuals,
+        ogas,
+        ugas,
+        asked,
+        accepted,
+        required,
+        inner,
+        kept,
+        upper,
+        count,
+    );
     energies_by(sums, seconds, count)
 }
 
-// Those of both directions.
+// Those of both directions, one after the other by the same series.
 fn both(
     after: Channel,
     setpoints: &[i32],
@@ -119,12 +145,23 @@ fn both(
     requires { ⌜ Timely (samples (now setpoints) (now actuals) (now ogas) (now ugas)) seconds ⌝ }
     ensures { λ r. ⌜ r ≡ measuredIn after seconds (samples (now (setpoints .entry)) (now (actuals .entry)) (now (ogas .entry)) (now (ugas .entry))) (termsIn positive) (termsIn negative) ⌝ }
 {
+    let blank = no_powers();
+    let mut asked = blank;
+    let mut accepted = blank;
+    let mut required = blank;
+    let mut inner = blank;
+    let mut kept = blank;
     let above = listed(
         Direction::Positive,
         setpoints,
         actuals,
         ogas,
         ugas,
+        &mut asked,
+        &mut accepted,
+        &mut required,
+        &mut inner,
+        &mut kept,
         seconds,
         positive,
     );
@@ -134,6 +171,11 @@ fn both(
         actuals,
         ogas,
         ugas,
+        &mut asked,
+        &mut accepted,
+        &mut required,
+        &mut inner,
+        &mut kept,
         seconds,
         negative,
     );

@@ -11,41 +11,37 @@ use Rattle.claims.specs.Views.{deliveredOf}
 use Rattle.claims.proofs.energies.pieces_delivered.Statement.{statement}
 use Rattle.claims.proofs.energies.pieces_delivered.Tie as tie
 
-no-powers-requires : tie.Need-no-powers-requires
-no-powers-requires c κs = search needs
-
-slice-aggregate-delivered : tie.Need-slice-aggregate-delivered
-slice-aggregate-delivered c = search needs
-
 delivered-requires : tie.Need-delivered-requires
 delivered-requires c κs = search needs
 
-array-share-prefix-series : tie.Need-array-share-prefix-series
-array-share-prefix-series c = search needs
+slice-reshare-prefix-cut : tie.Need-slice-reshare-prefix-cut
+slice-reshare-prefix-cut c = search needs
 
 slice-aggregate-cut : tie.Need-slice-aggregate-cut
-slice-aggregate-cut c = sym (length-take-le _ _ (omega (arith, c .before .before .before .before .before .pre)))
+slice-aggregate-cut c = sym (length-take-le _ _ (omega (arith, c .before .before .before .before .before .before .pre)))
 
 cut-requires : tie.Need-cut-requires
 cut-requires c κs = search needs
 
+same-length : tie.Need-same-length
+same-length c = search needs
+
 returns : tie.Need-returns
 returns c =
-    let blank = c .before .before .before .before .before in
-    let a = blank .before .args in
+    let stored = c .before .before .before .before in
+    let a = stored .before .before .before .args in
     let f = deliveredOf (a .direction) in
-    let rest = drop (length (a .actuals .now)) (blank .no-powers .result) in
+    let rest = drop (length (a .actuals .now)) (a .series .now) in
     let seam = rw (each-length f (a .actuals .now)) at (take-append-seam (each f (a .actuals .now)) rest) in
-    rw (c .cut .ensures, c .before .before .before .delivered .ensures, seam)
+    (rw (c .cut .ensures, stored .delivered .ensures, seam), search needs)
 
 pub pieces-delivered-spec : {M : Type 1} → statement M
 pieces-delivered-spec =
     tie.close
     (tie.spec
-    no-powers-requires
-    slice-aggregate-delivered
     delivered-requires
-    array-share-prefix-series
+    slice-reshare-prefix-cut
     slice-aggregate-cut
     cut-requires
+    same-length
     returns)
