@@ -1,9 +1,11 @@
 -- The windows at each setpoint of a line, and where the loop that leads the bounds along it stands.
 -- Assumes nothing.
-use mathlib.Core.Path.{_≡_, refl, ap, _∙_}
+use mathlib.Core.Path.{_≡_, refl, sym, ap, _∙_}
 use mathlib.Core.List.{List}
-use Prim.Native.Nat.{ℕ, suc, _+_, _-_, _≤_, _<_}
+use mathlib.Core.Logic.{⊎-elim}
+use Prim.Native.Nat.{ℕ, zero, suc, _+_, _-_, _≤_, _<_}
 use native.Mathlib.Omega.{arith}
+use native.Mathlib.Nat.{add-zero, eq-or-lt-of-le}
 use native.Mathlib.Numerals.{add-one}
 use lib.IntN.{ℤ, pos}
 use lib.ListN.{length, getD, set}
@@ -15,11 +17,12 @@ use Rattle.bounds.specs.declared.side.Side.the-variants.{Upper, Lower}
 use Rattle.bounds.specs.declared.bound.Seen.{Seen}
 use Rattle.vocabulary.specs.declared.acceptance.Bounds.{Bounds}
 use Rattle.bounds.specs.declared.line.Led.{Led}
+use Rattle.bounds.specs.Windows.{over}
 use Rattle.bounds.specs.Side.{fartherOf, seenBy, nextOf}
 use Rattle.bounds.specs.Widening.{backAt, endingAt, Reaching}
-use Rattle.bounds.specs.Line.{heldAfter, heldAt, noBounds, ledOf, Windowed, NearWindows, SpreadWindows, Shown}
+use Rattle.bounds.specs.Line.{heldAfter, heldAt, noBounds, ledOf, Windowed, Flat, NearWindows, SpreadWindows, Shown}
 use Rattle.bounds.proofs.Scan.{within}
-use Rattle.bounds.proofs.Sides.{next-seen}
+use Rattle.bounds.proofs.Sides.{farther-ind, next-seen}
 use Rattle.bounds.proofs.WindowLaws.{earlier}
 
 -- ---- the windows: those of to - from + 1 setpoints that end `from` places before a setpoint
@@ -42,6 +45,40 @@ module _ (side : Side) (line : List ℤ) (n : ℕ) (xs : List ℤ) where
 
   pub spread-windows : (i : Interval) → Reaching side line (windowsOf i .to - windowsOf i .from + 1) (302 + n) xs → SpreadWindows side i line n xs
   spread-windows i r = let w = within i in windowed (windowsOf i .from) (windowsOf i .to) (w .order) (w .far) r
+
+-- ---- a line of one and the same setpoint: each window over it shows that one
+
+pub flat-one : (line : List ℤ) → Flat line 1
+flat-one line k h = let e : k ≡ 0 = omega arith in rw e
+
+pub flat-more : (line : List ℤ) (n : ℕ) → Flat line n → getD line n (pos 0) ≡ getD line 0 (pos 0) → Flat line (n + 1)
+flat-more line n f e k h =
+    ⊎-elim (λ (q : k ≡ n). rw q e) (λ (l : k < n). f k l) (eq-or-lt-of-le (let l : k ≤ n = omega arith in l))
+
+over-same : (side : Side) (f : ℕ → ℤ) (v : ℤ) (from n : ℕ) → ((k : ℕ) → f (from + k) ≡ v) → over (fartherOf side) f from n ≡ v
+unfolding over
+over-same side f v from zero h = rw (add-zero from) at (h 0)
+over-same side f v from (suc n) h = rw (over-same side f v from n h, h (suc n)) (farther-ind (λ (z : ℤ). z ≡ v) side v v refl refl)
+
+module _ (line : List ℤ) (n : ℕ) (flat : Flat line (302 + n)) where
+  flat-windows : (side : Side) (from to : ℕ) → from ≤ to → to < 302 → Windowed side line n from to line
+  unfolding backAt
+  flat-windows side from to order far =
+      record {
+        found = λ k h.
+            flat (302 + k - from) (omega arith)
+            ∙ sym (over-same side (backAt line (302 + k)) (getD line 0 (pos 0)) from (to - from) (λ j. flat (302 + k - (from + j)) (omega arith)));
+      }
+
+  pub flat-shown : (i : Interval) → Shown i line n line line line line
+  flat-shown i =
+      let w = within i in
+      record {
+        near-upper = flat-windows Upper 0 (windowsOf i .near) (omega arith) (w .near);
+        near-lower = flat-windows Lower 0 (windowsOf i .near) (omega arith) (w .near);
+        spread-upper = flat-windows Upper (windowsOf i .from) (windowsOf i .to) (w .order) (w .far);
+        spread-lower = flat-windows Lower (windowsOf i .from) (windowsOf i .to) (w .order) (w .far);
+      }
 
 -- ---- one setpoint more
 

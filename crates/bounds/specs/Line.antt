@@ -52,6 +52,10 @@ NearWindows side i line n = Windowed side line n 0 (windowsOf i .near)
 abbrev pub SpreadWindows : Side → Interval → List ℤ → ℕ → List ℤ → Type 0
 SpreadWindows side i line n = Windowed side line n (windowsOf i .from) (windowsOf i .to)
 
+-- the first n setpoints of a line are one and the same
+abbrev pub Flat : List ℤ → ℕ → Type 0
+Flat line n = (k : ℕ) → k < n → getD line k (pos 0) ≡ getD line 0 (pos 0)
+
 -- both windows, on both sides
 pub record Shown (i : Interval) (line : List ℤ) (n : ℕ) (highest lowest most least : List ℤ) : Type 0 where
   pub near-upper : NearWindows Upper i line n highest

@@ -7,12 +7,13 @@ use arithmetic::whole::least;
 use vocabulary::acceptance::Bounds;
 use vocabulary::interval::Interval;
 ghost use mathlib.Core.Path.{_≡_};
+ghost use mathlib.Core.Bool.{true};
 ghost use mathlib.Core.List.{List};
 ghost use Prim.Native.Nat.{_+_, _≤_};
 ghost use lib.IntN.{ℤ};
 ghost use lib.ListN.{length};
 ghost use Rattle.arithmetic.specs.Whole.{leastOf};
-ghost use Rattle.bounds.specs.Line.{noBounds, ledOf, NearWindows, SpreadWindows, Shown};
+ghost use Rattle.bounds.specs.Line.{noBounds, ledOf, Flat, NearWindows, SpreadWindows, Shown};
 
 // The bounds at each setpoint, in units, and after the last.
 pub struct Led {
@@ -101,6 +102,21 @@ fn bounded(
     Led { last, ogas, ugas }
 }
 
+// Whether the first n setpoints of a line are one and the same. Then each window over them shows that one, as on days when nothing is asked for, for hours.
+fn is_flat(line: &[i32], n: usize) -> bool
+    requires { ⌜ n ≤ length (now line) ⌝ }
+    ensures { λ r. ⌜ (r ≡ true → Flat (now (line .entry)) n) ⌝ }
+{
+    let mut k = 1;
+    while k < n {
+        if line[k] != line[0] {
+            return false;
+        }
+        k += 1;
+    }
+    true
+}
+
 // OGA and UGA along n setpoints after the first 302 of a line, by its windows, for which arrays are lent.
 fn lead_with(
     interval: Interval,
@@ -128,6 +144,9 @@ pub fn lead(interval: Interval, lot: u32, held: Bounds, line: [i32; 1202], count
     ensures { λ r. ⌜ r ≡ ledOf interval lot held line (leastOf count 900) ⌝ }
 {
     let n = least(count as u64, 900) as usize;
+    if is_flat(&line, 302 + n) {
+        return bounded(interval, lot, held, &line, &line, &line, &line, n);
+    }
     let mut highest = blank();
     let mut lowest = blank();
     let mut most = blank();
