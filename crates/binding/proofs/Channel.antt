@@ -1,6 +1,9 @@
 -- No second answer fits a call of `channel`.
 use mathlib.Core.Path.{_∙_, sym}
-use Rattle.binding.specs.Single.{Single}
+use mathlib.Core.List.{List}
+use denote.Ref.{now}
+use lib.IntN.{ℤ}
+use Rattle.binding.specs.Single.{Single, SingleBytes}
 use Rattle.binding.proofs.Arithmetic.{units-single}
 use Rattle.channel.proofs.Channel.new.Reads as new
 use Rattle.channel.proofs.Channel.follow.Reads as follow
@@ -31,8 +34,11 @@ bounded-single κs a r r′ x x′ p q = p .0 ∙ sym (q .0)
 back-single : Single back.Post
 back-single κs a r r′ x x′ p q = p ∙ sym q
 
-along-single : Single along.Post
-along-single κs a r r′ x x′ p q = p ∙ sym q
+along-single : SingleBytes {B = List ℤ × List ℤ} (λ κs x. (now (x .1 .1 .1 .0), now (x .1 .1 .1 .1 .0))) along.Post
+along-single κs a r r′ x x′ p q = (
+  p .channel ∙ sym (q .channel),
+  (λ i. ((p .above ∙ sym (q .above)) i, (p .below ∙ sym (q .below)) i)),
+)
 
 sized-single : Single sized.Post
 sized-single κs a r r′ x x′ p q = p .0 ∙ sym (q .0)

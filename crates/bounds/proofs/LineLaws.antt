@@ -16,11 +16,10 @@ use Rattle.bounds.specs.declared.side.Side.{Side}
 use Rattle.bounds.specs.declared.side.Side.the-variants.{Upper, Lower}
 use Rattle.bounds.specs.declared.bound.Seen.{Seen}
 use Rattle.vocabulary.specs.declared.acceptance.Bounds.{Bounds}
-use Rattle.bounds.specs.declared.line.Led.{Led}
 use Rattle.bounds.specs.Windows.{over}
 use Rattle.bounds.specs.Side.{fartherOf, seenBy, nextOf}
 use Rattle.bounds.specs.Widening.{backAt, endingAt, Reaching}
-use Rattle.bounds.specs.Line.{heldAfter, heldAt, noBounds, ledOf, Windowed, Flat, NearWindows, SpreadWindows, Shown}
+use Rattle.bounds.specs.Line.{heldAfter, heldAt, boundsAfter, Leads, Windowed, Flat, NearWindows, SpreadWindows, Shown}
 use Rattle.bounds.proofs.Scan.{within}
 use Rattle.bounds.proofs.Sides.{farther-ind, next-seen}
 use Rattle.bounds.proofs.WindowLaws.{earlier}
@@ -82,10 +81,6 @@ module _ (line : List ℤ) (n : ℕ) (flat : Flat line (302 + n)) where
 
 -- ---- one setpoint more
 
-pub bounds-900 : length noBounds ≡ 900
-unfolding noBounds
-bounds-900 = refl
-
 module _ (i : Interval) (lot : ℕ) (line : List ℤ) (n : ℕ) (highest lowest most least : List ℤ) where
   -- what the windows show at setpoint k
   abbrev pub seenAt : ℕ → Seen
@@ -107,34 +102,30 @@ module _ (i : Interval) (lot : ℕ) (line : List ℤ) (n : ℕ) (highest lowest 
 
 -- ---- the loop over the setpoints
 
-module _ (i : Interval) (lot : ℕ) (line : List ℤ) (start : Bounds) where
-  abbrev pub lastOf : ℕ → Bounds
-  lastOf k = record { oga = record { 0 = heldAfter Upper i lot line (start .oga .0) k }; uga = record { 0 = heldAfter Lower i lot line (start .uga .0) k } }
-
+module _ (i : Interval) (lot : ℕ) (line : List ℤ) (start : Bounds) (ogas₀ ugas₀ : List ℤ) where
   -- where it stands after k setpoints
   pub record Midway (last : Bounds) (ogas ugas : List ℤ) (k : ℕ) : Type 0 where
-    pub now : last ≡ lastOf k
-    pub over : Tabled (heldAt Upper i lot line (start .oga .0)) noBounds ogas k
-    pub under : Tabled (heldAt Lower i lot line (start .uga .0)) noBounds ugas k
+    pub now : last ≡ boundsAfter i lot line start k
+    pub over : Tabled (heldAt Upper i lot line (start .oga .0)) ogas₀ ogas k
+    pub under : Tabled (heldAt Lower i lot line (start .uga .0)) ugas₀ ugas k
 
-  pub midway-none : Midway start noBounds noBounds 0
+  pub midway-none : Midway start ogas₀ ugas₀ 0
   unfolding heldAfter
-  midway-none = record { now = refl; over = tabled-none _ noBounds; under = tabled-none _ noBounds }
+  midway-none = record { now = refl; over = tabled-none _ ogas₀; under = tabled-none _ ugas₀ }
 
-  module _ (n : ℕ) (highest lowest most least : List ℤ) (s : Shown i line n highest lowest most least) (few : n ≤ 900) where
+  module _ (n : ℕ) (highest lowest most least : List ℤ) (s : Shown i line n highest lowest most least) (above : n ≤ length ogas₀) (below : n ≤ length ugas₀) where
     pub midway-more : (last next : Bounds) (ogas ugas : List ℤ) (k : ℕ) → k < n → next ≡ nextOf i lot (seenAt i lot line n highest lowest most least k) last
         → Midway last ogas ugas k → Midway next (set ogas k (next .oga .0)) (set ugas k (next .uga .0)) (k + 1)
     unfolding heldAfter
     midway-more last next ogas ugas k h e m =
         let shown = seen-at i lot line n highest lowest most least s k h in
-        let v : next ≡ lastOf (suc k) = rw shown at e ∙ next-seen i lot (backAt line (302 + k)) last ∙ rw (m .now) in
+        let v : next ≡ boundsAfter i lot line start (suc k) = rw shown at e ∙ next-seen i lot (backAt line (302 + k)) last ∙ rw (m .now) in
         record {
           now = rw (add-one) v;
-          over = tabled-more _ noBounds ogas k (next .oga .0) (omega (arith, bounds-900)) (ap (λ (b : Bounds). b .oga .0) v) (m .over);
-          under = tabled-more _ noBounds ugas k (next .uga .0) (omega (arith, bounds-900)) (ap (λ (b : Bounds). b .uga .0) v) (m .under);
+          over = tabled-more _ ogas₀ ogas k (next .oga .0) (omega arith) (ap (λ (b : Bounds). b .oga .0) v) (m .over);
+          under = tabled-more _ ugas₀ ugas k (next .uga .0) (omega arith) (ap (λ (b : Bounds). b .uga .0) v) (m .under);
         }
 
-  pub midway-all : (last : Bounds) (ogas ugas : List ℤ) (k : ℕ) → Midway last ogas ugas k → _≡_ {A = Led} (record { last = last; ogas = ogas; ugas = ugas }) (ledOf i lot start line k)
-  unfolding ledOf
+  pub midway-all : (last : Bounds) (ogas ugas : List ℤ) (k : ℕ) → Midway last ogas ugas k → Leads i lot start line k ogas₀ ugas₀ ogas ugas last
   midway-all last ogas ugas k m =
-      rw (m .now, tabled-all _ noBounds ogas k (m .over), tabled-all _ noBounds ugas k (m .under))
+      record { last = m .now; above = tabled-all _ ogas₀ ogas k (m .over); below = tabled-all _ ugas₀ ugas k (m .under) }

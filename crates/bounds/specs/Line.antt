@@ -3,14 +3,14 @@ use Prim.Native.Nat.{ℕ, zero, suc, _+_, _-_, _<_}
 use mathlib.Core.Path.{_≡_}
 use mathlib.Core.List.{List, _++_}
 use lib.IntN.{ℤ, pos}
-use lib.ListN.{getD, drop, replicate}
+use lib.ListN.{getD, drop}
+use Rattle.arithmetic.specs.Whole.{leastOf}
 use Rattle.series.specs.Places.{table}
 use Rattle.vocabulary.specs.declared.interval.Interval.{Interval}
 use Rattle.vocabulary.specs.Interval.{windowsOf}
 use Rattle.bounds.specs.declared.side.Side.{Side}
 use Rattle.bounds.specs.declared.side.Side.the-variants.{Upper, Lower}
 use Rattle.vocabulary.specs.declared.acceptance.Bounds.{Bounds}
-use Rattle.bounds.specs.declared.line.Led.{Led}
 use Rattle.bounds.specs.Windows.{over}
 use Rattle.bounds.specs.Side.{fartherOf, nextBy}
 use Rattle.bounds.specs.Widening.{backAt}
@@ -24,20 +24,25 @@ heldAfter side i lot line held (suc n) = nextBy side i lot (backAt line (302 + n
 abbrev pub heldAt : Side → Interval → ℕ → List ℤ → ℤ → ℕ → ℤ
 heldAt side i lot line held k = heldAfter side i lot line held (suc k)
 
-unfoldable pub noBounds : List ℤ
-noBounds = replicate 900 (pos 0)
+-- both after n of them
+abbrev pub boundsAfter : Interval → ℕ → List ℤ → Bounds → ℕ → Bounds
+boundsAfter i lot line held n = record { oga = record { 0 = heldAfter Upper i lot line (held .oga .0) n }; uga = record { 0 = heldAfter Lower i lot line (held .uga .0) n } }
 
--- as an array of 900 holds the first n
-abbrev pub heldUpTo : Side → Interval → ℕ → List ℤ → ℤ → ℕ → List ℤ
-heldUpTo side i lot line held n = table (heldAt side i lot line held) n ++ drop n noBounds
+-- ---- as code holds them
 
-unfoldable pub ledOf : Interval → ℕ → Bounds → List ℤ → ℕ → Led
-ledOf i lot held line n =
-    record {
-      last = record { oga = record { 0 = heldAfter Upper i lot line (held .oga .0) n }; uga = record { 0 = heldAfter Lower i lot line (held .uga .0) n } };
-      ogas = heldUpTo Upper i lot line (held .oga .0) n;
-      ugas = heldUpTo Lower i lot line (held .uga .0) n;
-    }
+-- the first n in a series that held others
+abbrev pub heldUpTo : Side → Interval → ℕ → List ℤ → ℤ → ℕ → List ℤ → List ℤ
+heldUpTo side i lot line held n xs = table (heldAt side i lot line held) n ++ drop n xs
+
+-- how many of `count` setpoints are led along: 900 at most, and no more than there is room for their bounds
+unfoldable pub ledCount : ℕ → ℕ → ℕ → ℕ
+ledCount count ogas ugas = leastOf (leastOf count 900) (leastOf ogas ugas)
+
+-- bounds along n setpoints: after the last, and at each in two series
+pub record Leads (i : Interval) (lot : ℕ) (held : Bounds) (line : List ℤ) (n : ℕ) (ogas ugas ogas′ ugas′ : List ℤ) (r : Bounds) : Type 0 where
+  pub last : r ≡ boundsAfter i lot line held n
+  pub above : ogas′ ≡ heldUpTo Upper i lot line (held .oga .0) n ogas
+  pub below : ugas′ ≡ heldUpTo Lower i lot line (held .uga .0) n ugas
 
 -- ---- the windows that the passes over the line show at each of n setpoints
 

@@ -12,21 +12,7 @@ ghost use mathlib.Core.List.{List};
 ghost use Prim.Native.Nat.{_+_, _≤_};
 ghost use lib.IntN.{ℤ};
 ghost use lib.ListN.{length};
-ghost use Rattle.arithmetic.specs.Whole.{leastOf};
-ghost use Rattle.bounds.specs.Line.{noBounds, ledOf, Flat, NearWindows, SpreadWindows, Shown};
-
-// The bounds at each setpoint, in units, and after the last.
-pub struct Led {
-    pub last: Bounds,
-    pub ogas: [i64; 900],
-    pub ugas: [i64; 900],
-}
-
-fn no_bounds() -> [i64; 900]
-    ensures { λ r. ⌜ r ≡ noBounds ⌝ }
-{
-    [0i64; 900]
-}
+ghost use Rattle.bounds.specs.Line.{Flat, NearWindows, SpreadWindows, Shown, ledCount, Leads};
 
 fn blank() -> [i32; 1202]
     ensures { λ r. ⌜ length r ≡ 1202 ⌝ }
@@ -63,7 +49,7 @@ fn show(
     );
 }
 
-// The bounds at each of n setpoints, by the windows there.
+// OGA and UGA at each of n setpoints, by the windows there, into two series that are lent; and after the last.
 fn bounded(
     interval: Interval,
     lot: u32,
@@ -73,14 +59,16 @@ fn bounded(
     most: &[i32],
     least: &[i32],
     n: usize,
-) -> Led
+    ogas: &mut [i64],
+    ugas: &mut [i64],
+) -> Bounds
     requires { ⌜ (n ≤ 900) × ((302 + n ≤ length (now highest)) × ((302 + n ≤ length (now lowest)) × ((302 + n ≤ length (now most)) × (302 + n ≤ length (now least))))) ⌝ }
-    ensures { λ r. ⌜ ((line : List ℤ) → Shown interval line n (now (highest .entry)) (now (lowest .entry)) (now (most .entry)) (now (least .entry)) → r ≡ ledOf interval lot held line n) ⌝ }
+    requires { ⌜ (n ≤ length (now ogas)) × (n ≤ length (now ugas)) ⌝ }
+    ensures { λ r. ⌜ ((line : List ℤ) → Shown interval line n (now (highest .entry)) (now (lowest .entry)) (now (most .entry)) (now (least .entry))
+        → Leads interval lot held line n (now (ogas .entry)) (now (ugas .entry)) (now (ogas .exit)) (now (ugas .exit)) r) ⌝ }
 {
     let windows = interval.windows();
     let from = windows.from;
-    let mut ogas = no_bounds();
-    let mut ugas = no_bounds();
     let mut last = held;
     let mut i = 0;
     while i < n {
@@ -99,7 +87,7 @@ fn bounded(
         ugas[i] = below;
         i += 1;
     }
-    Led { last, ogas, ugas }
+    last
 }
 
 // Whether the first n setpoints of a line are one and the same. Then each window over them shows that one, as on days when nothing is asked for, for hours.
@@ -117,51 +105,75 @@ fn is_flat(line: &[i32], n: usize) -> bool
     true
 }
 
-// OGA and UGA along n setpoints after the first 302 of a line, by its windows, for which arrays are lent.
-fn lead_with(
+// How many of some setpoints are led along: no more than 900, and than either series has places for.
+pub fn led_count(count: usize, ogas: usize, ugas: usize) -> usize
+    ensures { λ r. ⌜ r ≡ ledCount count ogas ugas ⌝ }
+{
+    least(least(count as u64, 900), least(ogas as u64, ugas as u64)) as usize
+}
+
+// OGA and UGA along the first `count` setpoints after the first 302 of a line, from the bounds before them: as many as there is room for in the two series
+// that they go into, of 900 at most.
+pub fn lead(
     interval: Interval,
     lot: u32,
     held: Bounds,
-    line: &[i32],
-    highest: &mut [i32],
-    lowest: &mut [i32],
-    most: &mut [i32],
-    least: &mut [i32],
-    aside: &mut [i32],
-    n: usize,
-) -> Led
-    requires { ⌜ ((n ≤ 900) × (302 + n ≤ length (now line)))
-        × (((302 + n ≤ length (now highest)) × (302 + n ≤ length (now lowest))) × ((302 + n ≤ length (now most)) × ((302 + n ≤ length (now least)) × (302 + n ≤ length (now aside))))) ⌝ }
-    ensures { λ r. ⌜ r ≡ ledOf interval lot held (now (line .entry)) n ⌝ }
+    line: [i32; 1202],
+    count: usize,
+    ogas: &mut [i64],
+    ugas: &mut [i64],
+) -> Bounds
+    ensures { λ r. ⌜ Leads interval lot held line (ledCount count (length (now (ogas .entry))) (length (now (ugas .entry))))
+        (now (ogas .entry)) (now (ugas .entry)) (now (ogas .exit)) (now (ugas .exit)) r ⌝ }
 {
-    show(Side::Upper, interval, line, highest, most, aside, n);
-    show(Side::Lower, interval, line, lowest, least, aside, n);
-    bounded(interval, lot, held, highest, lowest, most, least, n)
-}
-
-// OGA and UGA along the first `count` setpoints after the first 302 of a line, of 900 at most, from the bounds before them.
-pub fn lead(interval: Interval, lot: u32, held: Bounds, line: [i32; 1202], count: usize) -> Led
-    ensures { λ r. ⌜ r ≡ ledOf interval lot held line (leastOf count 900) ⌝ }
-{
-    let n = least(count as u64, 900) as usize;
+    let n = led_count(count, ogas.len(), ugas.len());
     if is_flat(&line, 302 + n) {
-        return bounded(interval, lot, held, &line, &line, &line, &line, n);
+        return bounded(
+            interval,
+            lot,
+            held,
+            &line,
+            &line,
+            &line,
+            &line,
+            n,
+            ogas,
+            ugas,
+        );
     }
     let mut highest = blank();
     let mut lowest = blank();
     let mut most = blank();
     let mut least = blank();
     let mut aside = blank();
-    lead_with(
+    show(
+        Side::Upper,
         interval,
-        lot,
-        held,
         &line,
         &mut highest,
-        &mut lowest,
         &mut most,
+        &mut aside,
+        n,
+    );
+    show(
+        Side::Lower,
+        interval,
+        &line,
+        &mut lowest,
         &mut least,
         &mut aside,
         n,
+    );
+    bounded(
+        interval,
+        lot,
+        held,
+        &highest,
+        &lowest,
+        &most,
+        &least,
+        n,
+        ogas,
+        ugas,
     )
 }

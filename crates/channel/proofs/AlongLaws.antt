@@ -20,16 +20,16 @@ use Rattle.vocabulary.specs.declared.interval.Interval.{Interval}
 use Rattle.vocabulary.specs.Interval.{windowsOf}
 use Rattle.bounds.specs.declared.side.Side.{Side}
 use Rattle.bounds.specs.declared.side.Side.the-variants.{Upper, Lower}
-use Rattle.bounds.specs.declared.line.Led.{Led}
+use Rattle.vocabulary.specs.declared.acceptance.Bounds.{Bounds}
 use Rattle.bounds.specs.Side.{nextBy}
 use Rattle.bounds.specs.Widening.{backAt}
-use Rattle.bounds.specs.Line.{heldAfter, heldAt, noBounds, ledOf}
+use Rattle.bounds.specs.Line.{heldAfter, heldAt, ledCount, Leads}
 use Rattle.bounds.proofs.Agreeing.{next-cong}
 use Rattle.channel.specs.declared.Channel.{Channel}
 use Rattle.channel.specs.Start.{Start}
 use Rattle.channel.specs.Backward.{seriesAfter}
 use Rattle.channel.specs.State.{backIn, pastOf, after, primedOf, filledOf, storedOf, advancedOf, followed, StandsFor}
-use Rattle.channel.specs.Along.{ogaAfter, ugaAfter, channelAfter, ogasAlong, ugasAlong, trackOf, pastAt, agedAt, freshAt, Lined, ringAt}
+use Rattle.channel.specs.Along.{ogaAfter, ugaAfter, channelAfter, ogasAlong, ugasAlong, trackOf, Follows, pastAt, agedAt, freshAt, Lined, ringAt}
 use Rattle.channel.proofs.Ring.{stored-newest, stored-older, primed-later, follows}
 
 -- OGA, or UGA, of a channel, and after one more setpoint
@@ -225,8 +225,8 @@ bound-primed side ch s = after-in side (primedOf ch s) s ∙ ap (boundIn side) (
 
 track-cons : (ch : Channel) (x : ℤ) (l : List ℤ) → trackOf ch (x ∷ l) ≡ record {
   channel = channelAfter (followed ch x) l;
-  ogas = ogaAfter ch x ∷ (ogasAlong (followed ch x) l ++ drop (suc (length l)) noBounds);
-  ugas = ugaAfter ch x ∷ (ugasAlong (followed ch x) l ++ drop (suc (length l)) noBounds);
+  ogas = ogaAfter ch x ∷ ogasAlong (followed ch x) l;
+  ugas = ugaAfter ch x ∷ ugasAlong (followed ch x) l;
 }
 unfolding trackOf ran outputs
 track-cons ch x l = refl
@@ -237,17 +237,15 @@ track-primed ch (x ∷ xs) zero a b = absurd (omega arith)
 track-primed ch (x ∷ xs) (suc n) a b =
     rw (track-cons (primedOf ch x) x (take n xs), track-cons ch x (take n xs), bound-primed Upper ch x, bound-primed Lower ch x, followed-primed ch x)
 
-pub track-none : (ch : Channel) (xs : List ℤ) → trackOf ch (take 0 xs) ≡ record { channel = ch; ogas = noBounds; ugas = noBounds }
+-- along no setpoint
+pub track-none : (ch : Channel) (xs ogas ugas : List ℤ) (n : ℕ) → n ≡ 0 → Follows ch (take n xs) ogas ugas ogas ugas ch
 unfolding trackOf ran outputs
-track-none ch xs = refl
+track-none ch xs ogas ugas n e = rw e (record { channel = refl; above = refl; below = refl })
 
-pub take-fewer : (count : ℕ) (xs : List ℤ) → length xs ≡ 900 → take (leastOf count 900) xs ≡ take count xs
-unfolding leastOf
-take-fewer count xs e =
-    ⊎-elim
-    (λ (h : count - 900 ≡ 0). let d : count - (count - 900) ≡ count = omega arith in rw d)
-    (λ (h : 0 < count - 900). take-all (count - (count - 900)) xs (omega arith) ∙ sym (take-all count xs (omega arith)))
-    (eq-zero-or-pos (count - 900))
+-- as many as there is room for
+pub count-all : (n ogas ugas : ℕ) → n ≤ 900 → n ≤ ogas → n ≤ ugas → ledCount n ogas ugas ≡ n
+unfolding ledCount leastOf
+count-all n ogas ugas a b c = omega arith
 
 -- ---- a track by its parts
 
@@ -257,31 +255,23 @@ channel-of : (q : Channel) (ring : List ℤ) (newest : ℕ) (begun : Bool) (i : 
 channel-of q ring newest begun i lot oga uga r n b e l o u = rw (r, n, b, e, l, o, u)
 
 module _ (ch : Channel) (ss line : List ℤ) (begun : ch .begun ≡ true) (l : Lined (ch .ring) (ch .newest % 302) ss line (length ss)) where
-  pub tracks : (ring : List ℤ) (newest : ℕ) (led : Led) → ring ≡ channelAfter ch ss .ring → newest ≡ channelAfter ch ss .newest
-      → led ≡ ledOf (ch .interval) (ch .lot) (record { oga = ch .oga; uga = ch .uga }) line (length ss)
-      → record {
-        channel = record { ring = ring; newest = newest; begun = ch .begun; interval = ch .interval; lot = ch .lot; oga = led .last .oga; uga = led .last .uga };
-        ogas = led .ogas;
-        ugas = led .ugas;
-      } ≡ trackOf ch ss
-  unfolding trackOf ledOf
-  tracks ring newest led r n e =
+  pub tracks : (ring : List ℤ) (newest : ℕ) (last : Bounds) (ogas ugas ogas′ ugas′ : List ℤ) → ring ≡ channelAfter ch ss .ring → newest ≡ channelAfter ch ss .newest
+      → Leads (ch .interval) (ch .lot) (record { oga = ch .oga; uga = ch .uga }) line (length ss) ogas ugas ogas′ ugas′ last
+      → Follows ch ss ogas ugas ogas′ ugas′
+      (record { ring = ring; newest = newest; begun = ch .begun; interval = ch .interval; lot = ch .lot; oga = last .oga; uga = last .uga })
+  unfolding trackOf
+  tracks ring newest last ogas ugas ogas′ ugas′ r n led =
       let k = kept ch ss begun (l .sized) in
       let over = rw (take-length ss) at (held-after ch ss line begun l Upper (length ss) (omega arith)) in
       let under = rw (take-length ss) at (held-after ch ss line begun l Lower (length ss) (omega arith)) in
       let q = channelAfter ch ss in
-      let same = channel-of q ring newest (ch .begun) (ch .interval) (ch .lot) (q .oga .0) (q .uga .0) r n (begun ∙ sym (k .begun)) (sym (k .interval)) (sym (k .lot)) refl refl in
-      rw (e, held-along ch ss line begun l Upper, held-along ch ss line begun l Lower, ← over, ← under, same)
-
--- the bounds of a track at one of its setpoints
-module _ (ch : Channel) (ss : List ℤ) (i : ℕ) (h : i < length ss) where
-  pub track-oga : getD (trackOf ch ss .ogas) i (pos 0) ≡ getD (ogasAlong ch ss) i (pos 0)
-  unfolding trackOf
-  track-oga = List·getD-append (ogasAlong ch ss) (drop (length ss) noBounds) (pos 0) i (omega (arith, outputs-length followed ogaAfter ch ss))
-
-  pub track-uga : getD (trackOf ch ss .ugas) i (pos 0) ≡ getD (ugasAlong ch ss) i (pos 0)
-  unfolding trackOf
-  track-uga = List·getD-append (ugasAlong ch ss) (drop (length ss) noBounds) (pos 0) i (omega (arith, outputs-length followed ugaAfter ch ss))
+      let oga = ap (λ (b : Bounds). b .oga .0) (led .last) ∙ sym over in
+      let uga = ap (λ (b : Bounds). b .uga .0) (led .last) ∙ sym under in
+      record {
+        channel = channel-of q ring newest (ch .begun) (ch .interval) (ch .lot) (last .oga .0) (last .uga .0) r n (begun ∙ sym (k .begun)) (sym (k .interval)) (sym (k .lot)) oga uga;
+        above = led .above ∙ ap (λ (xs : List ℤ). xs ++ drop (length ss) ogas) (held-along ch ss line begun l Upper);
+        below = led .below ∙ ap (λ (xs : List ℤ). xs ++ drop (length ss) ugas) (held-along ch ss line begun l Lower);
+      }
 
 -- a channel that stands for a series stands for the longer one afterwards
 module _ (i : Interval) (lot : ℕ) (start : Start) where

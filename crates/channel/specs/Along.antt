@@ -7,9 +7,7 @@ use lib.ListN.{getD, take, drop, length}
 use Rattle.series.specs.Scan.{ran, outputs}
 use Rattle.series.specs.Places.{Fills}
 use Rattle.bounds.specs.Widening.{backAt}
-use Rattle.bounds.specs.Line.{noBounds}
 use Rattle.channel.specs.declared.Channel.{Channel}
-use Rattle.channel.specs.declared.along.Track.{Track}
 use Rattle.channel.specs.State.{backIn, pastOf, followed}
 
 -- OGA and UGA after one more setpoint
@@ -35,12 +33,23 @@ pastAt ch ss i = pastOf (channelAfter ch (take (i + 1) ss))
 
 -- ---- as code holds them
 
--- as many bounds as setpoints, in an array of 900
-abbrev pub heldFor : List ℤ → List ℤ → List ℤ
-heldFor ss bounds = bounds ++ drop (length ss) noBounds
+-- the channel after setpoints, with the bounds at each
+pub record Track : Type 0 where
+  pub channel : Channel
+  pub ogas : List ℤ
+  pub ugas : List ℤ
 
 unfoldable pub trackOf : Channel → List ℤ → Track
-trackOf ch ss = record { channel = channelAfter ch ss; ogas = heldFor ss (ogasAlong ch ss); ugas = heldFor ss (ugasAlong ch ss) }
+trackOf ch ss = record { channel = channelAfter ch ss; ogas = ogasAlong ch ss; ugas = ugasAlong ch ss }
+
+-- a channel that is answered, with the bounds at n setpoints at the front of two series that held others
+pub record Tracked (t : Track) (n : ℕ) (ogas ugas ogas′ ugas′ : List ℤ) (r : Channel) : Type 0 where
+  pub channel : r ≡ t .channel
+  pub above : ogas′ ≡ t .ogas ++ drop n ogas
+  pub below : ugas′ ≡ t .ugas ++ drop n ugas
+
+abbrev pub Follows : Channel → List ℤ → List ℤ → List ℤ → List ℤ → List ℤ → Channel → Type 0
+Follows ch ss = Tracked (trackOf ch ss) (length ss)
 
 -- place k of a line, from a ring, oldest first
 unfoldable pub agedAt : List ℤ → ℕ → ℕ → ℤ

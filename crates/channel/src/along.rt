@@ -1,25 +1,10 @@
 // What leading a channel along up to 900 setpoints at once is made of: the ring and the setpoints as one line, and the ring after it.
-use crate::Channel;
 ghost use mathlib.Core.Path.{_≡_};
 ghost use Prim.Native.Nat.{ℕ, _+_, _≤_, _<_};
 ghost use lib.IntN.{ℤ, pos};
 ghost use lib.ListN.{length, getD};
 ghost use Rattle.series.specs.Places.{Fills};
-ghost use Rattle.bounds.specs.Line.{noBounds};
 ghost use Rattle.channel.specs.Along.{agedAt, ringAt, Lined};
-
-// The channel after setpoints, and OGA and UGA at each, in units.
-pub struct Track {
-    pub channel: Channel,
-    pub ogas: [i64; 900],
-    pub ugas: [i64; 900],
-}
-
-pub(crate) fn no_bounds() -> [i64; 900]
-    ensures { λ r. ⌜ r ≡ noBounds ⌝ }
-{
-    [0i64; 900]
-}
 
 fn no_ring() -> [i32; 302]
     ensures { λ r. ⌜ length r ≡ 302 ⌝ }

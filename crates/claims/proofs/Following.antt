@@ -1,7 +1,7 @@
 -- The bounds that follow the setpoints of a quarter hour enclose them, and a whole quarter hour of samples has 900 seconds.
 -- Assumes nothing.
 use mathlib.Core.Path.{_≡_, refl, sym, _∙_}
-use mathlib.Core.List.{List, [], _∷_}
+use mathlib.Core.List.{List, [], _∷_, _++_}
 use Prim.Native.Nat.{ℕ, zero, suc, _*_, _≤_, _<_}
 use native.Mathlib.Omega.{arith}
 use lib.IntN.{ℤ, pos}
@@ -17,7 +17,7 @@ use Rattle.channel.proofs.Enclosed.{uga-under, oga-over}
 use Rattle.series.specs.Scan.{outputs}
 use Rattle.series.proofs.Scanned.{outputs-length}
 use Rattle.values.specs.Part.{Within}
-use Rattle.channel.specs.Along.{ogaAfter, ugaAfter, channelAfter, ogasAlong, ugasAlong, heldFor, trackOf}
+use Rattle.channel.specs.Along.{ogaAfter, ugaAfter, channelAfter, ogasAlong, ugasAlong, trackOf, Follows}
 use Rattle.contracts.specs.declared.terms.Terms.{Terms}
 use Rattle.claims.specs.Claims.{samplesAlong, measuredOf}
 use Rattle.claims.specs.Views.{samplesIn, measuredIn}
@@ -30,17 +30,17 @@ within ch [] h i k = absurd (omega arith)
 within ch (s ∷ ss) h zero k = record { above = uga-under ch s h; below = oga-over ch s h }
 within ch (s ∷ ss) h (suc i) k = within (followed ch s) ss (followed-sized ch s h) i (omega arith)
 
-quarter-of : (i : Interval) (n : ℕ) → n ≡ windowsOf i .samples → (n ≤ 900) × (windowsOf i .seconds * n ≤ 900)
+pub quarter-of : (i : Interval) (n : ℕ) → n ≡ windowsOf i .samples → (n ≤ 900) × (windowsOf i .seconds * n ≤ 900)
 quarter-of One n e = (omega arith, omega arith)
 quarter-of Three n e = (omega arith, omega arith)
 quarter-of Four n e = (omega arith, omega arith)
 
--- the bounds that a track holds
-front : (n : ℕ) (ss bounds : List ℤ) → length bounds ≡ n → take n (heldFor ss bounds) ≡ bounds
-front n ss bounds e = take-at bounds _ n e
+-- the bounds at the front of a series
+front : (n : ℕ) (bounds rest : List ℤ) → length bounds ≡ n → take n (bounds ++ rest) ≡ bounds
+front n bounds rest e = take-at bounds rest n e
 
-longer : (ss bounds : List ℤ) → length bounds ≤ length (heldFor ss bounds)
-longer ss bounds = rw length-append (omega arith)
+longer : (n : ℕ) (bounds rest : List ℤ) → length bounds ≡ n → n ≤ length (bounds ++ rest)
+longer n bounds rest e = rw length-append (omega arith)
 
 -- a whole quarter hour from the start of two arrays
 module _ (ch : Channel) (i : Interval) (ss vs : List ℤ) (held : 900 ≤ length ss) where
@@ -56,19 +56,29 @@ module _ (ch : Channel) (i : Interval) (ss vs : List ℤ) (held : 900 ≤ length
   ugas-long : length (ugasAlong ch (take n ss)) ≡ n
   ugas-long = outputs-length followed ugaAfter ch (take n ss) ∙ count
 
-  -- the first bounds of the track are those of the samples
-  pub samples-led : samplesIn (trackOf ch (take n ss)) n ss vs ≡ samplesAlong ch (take n ss) (take n vs)
-  unfolding trackOf
-  samples-led = rw (front n (take n ss) (ogasAlong ch (take n ss)) ogas-long, front n (take n ss) (ugasAlong ch (take n ss)) ugas-long)
+  module _ {ogas ugas ogas′ ugas′ : List ℤ} {after : Channel} (f : Follows ch (take n ss) ogas ugas ogas′ ugas′ after) where
+    -- the first bounds of both series are those of the samples
+    pub samples-led : samplesIn ogas′ ugas′ n ss vs ≡ samplesAlong ch (take n ss) (take n vs)
+    unfolding trackOf
+    samples-led = rw (f .above, f .below, front n (ogasAlong ch (take n ss)) _ ogas-long, front n (ugasAlong ch (take n ss)) _ ugas-long)
 
-  pub enough-led : Led (trackOf ch (take n ss)) n
-  unfolding trackOf
-  enough-led =
-      record {
-        few = quarter-of i n refl .0;
-        ogas = omega (arith, longer (take n ss) (ogasAlong ch (take n ss)), ogas-long);
-        ugas = omega (arith, longer (take n ss) (ugasAlong ch (take n ss)), ugas-long);
-      }
+    pub enough-led : Led ogas′ ugas′ n
+    unfolding trackOf
+    enough-led =
+        record {
+          few = quarter-of i n refl .0;
+          ogas = rw (f .above) (longer n (ogasAlong ch (take n ss)) _ ogas-long);
+          ugas = rw (f .below) (longer n (ugasAlong ch (take n ss)) _ ugas-long);
+        }
+
+    channel-led : after ≡ channelAfter ch (take n ss)
+    unfolding trackOf
+    channel-led = f .channel
+
+    -- measured side by side
+    pub measured-led : (ps ns : List Terms) → measuredIn after (windowsOf i .seconds) (samplesIn ogas′ ugas′ n ss vs) ps ns ≡ measuredOf ch i (take n ss) (take n vs) ps ns
+    unfolding measuredOf
+    measured-led ps ns = rw (channel-led, samples-led)
 
   -- no sum of either direction wraps
   pub timely : 900 ≤ length vs → length (ch .ring) ≡ 302 → Timely (samplesAlong ch (take n ss) (take n vs)) (windowsOf i .seconds)
@@ -80,14 +90,3 @@ module _ (ch : Channel) (i : Interval) (ss vs : List ℤ) (held : 900 ≤ length
         quarter = rw count (q .1);
         within = within ch (take n ss) ring;
       }
-
-  -- measured side by side
-  channel-led : trackOf ch (take n ss) .channel ≡ channelAfter ch (take n ss)
-  unfolding trackOf
-  channel-led = refl
-
-  pub measured-led : (ps ns : List Terms)
-      → measuredIn (trackOf ch (take n ss) .channel) (windowsOf i .seconds) (samplesIn (trackOf ch (take n ss)) n ss vs) ps ns
-      ≡ measuredOf ch i (take n ss) (take n vs) ps ns
-  unfolding measuredOf
-  measured-led ps ns = rw (channel-led, samples-led)

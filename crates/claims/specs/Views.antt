@@ -14,7 +14,6 @@ use Rattle.series.specs.Sums.{sumOf}
 use Rattle.series.specs.Cuts.{piecesOf}
 use Rattle.series.specs.declared.cutting.Pieces.{Pieces}
 use Rattle.channel.specs.declared.Channel.{Channel}
-use Rattle.channel.specs.declared.along.Track.{Track}
 use Rattle.vocabulary.specs.declared.direction.Direction.{Direction}
 use Rattle.vocabulary.specs.declared.direction.Direction.the-variants.{Positive, Negative}
 use Rattle.values.specs.declared.value.Quantity.{Quantity}
@@ -154,8 +153,8 @@ energiesBy seconds s count =
 -- ---- both directions
 
 -- the samples at the start of two arrays, with the bounds of a track
-abbrev pub samplesIn : Track → ℕ → List ℤ → List ℤ → Samples
-samplesIn t n ss vs = samples (take n ss) (take n vs) (take n (t .ogas)) (take n (t .ugas))
+abbrev pub samplesIn : List ℤ → List ℤ → ℕ → List ℤ → List ℤ → Samples
+samplesIn ogas ugas n ss vs = samples (take n ss) (take n vs) (take n ogas) (take n ugas)
 
 -- the energies of samples, and the channel after them
 abbrev pub measuredIn : Channel → ℕ → Samples → List Terms → List Terms → Measured

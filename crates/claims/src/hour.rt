@@ -10,7 +10,6 @@ use crate::energies::summed;
 use arithmetic::energy::Kwh;
 use arithmetic::energy::energy;
 use channel::Channel;
-use channel::along::Track;
 use contracts::book::Book;
 use contracts::terms::limits;
 use vocabulary::direction::Direction;
@@ -186,21 +185,27 @@ fn both(
     }
 }
 
-// A quarter hour that a channel was led along.
+// No bound yet of any sample.
+fn no_bounds() -> [i64; 900]
+    ensures { λ r. ⌜ length r ≡ 900 ⌝ }
+{
+    [0i64; 900]
+}
+
+// A quarter hour that a channel was led along, with the bounds at its samples.
 fn led(
-    track: Track,
+    after: Channel,
     windows: Windows,
     setpoints: [i32; 900],
     actuals: [i32; 900],
+    ogas: &[i64],
+    ugas: &[i64],
     positive: Book,
     negative: Book,
 ) -> Measured
-    requires { ⌜ Led track (windows .samples) × Timely (samplesIn track (windows .samples) setpoints actuals) (windows .seconds) ⌝ }
-    ensures { λ r. ⌜ r ≡ measuredIn (track .channel) (windows .seconds) (samplesIn track (windows .samples) setpoints actuals) (termsIn positive) (termsIn negative) ⌝ }
+    requires { ⌜ Led (now ogas) (now ugas) (windows .samples) × Timely (samplesIn (now ogas) (now ugas) (windows .samples) setpoints actuals) (windows .seconds) ⌝ }
+    ensures { λ r. ⌜ r ≡ measuredIn after (windows .seconds) (samplesIn (now (ogas .entry)) (now (ugas .entry)) (windows .samples) setpoints actuals) (termsIn positive) (termsIn negative) ⌝ }
 {
-    let after = track.channel;
-    let ogas = track.ogas;
-    let ugas = track.ugas;
     let n = windows.samples;
     let seconds = windows.seconds as u64;
     both(
@@ -227,6 +232,19 @@ pub fn measure(
 {
     let interval = channel.interval();
     let windows = interval.windows();
-    let track = channel.sized().along(setpoints, windows.samples);
-    led(track, windows, setpoints, actuals, positive, negative)
+    let mut ogas = no_bounds();
+    let mut ugas = no_bounds();
+    let after = channel
+        .sized()
+        .along(setpoints, windows.samples, &mut ogas, &mut ugas);
+    led(
+        after,
+        windows,
+        setpoints,
+        actuals,
+        &ogas,
+        &ugas,
+        positive,
+        negative,
+    )
 }

@@ -1,61 +1,71 @@
--- `channel::Channel::along` meets its contract.
+-- `channel::Channel::along` meets its contract: a first setpoint is primed once, and then led along with the others.
 -- Assumes nothing.
-use Prim.Native.Nat.{ℕ, _<_}
-use native.Mathlib.Omega.{arith}
+use Prim.Native.Nat.{ℕ, _<_, _≤_}
 use mathlib.Core.Path.{_≡_, sym, ap, _∙_}
-use lib.ListN.{length, take, getD}
-use borrow.Author.Needs.{needs, sfits-of}
-use mir.Syntax.{w32}
+use native.Mathlib.Omega.{arith}
+use borrow.Author.Needs.{needs}
+use borrow.Author.Needs.{sfits-of}
 use lib.IntN.{pos}
+use lib.ListN.{length, take, getD}
+use mir.Syntax.{w32}
 use mir.ValLaws.{toZ-ofZ}
 use Rattle.arithmetic.specs.Whole.{leastOf}
-use Rattle.channel.specs.Along.{trackOf}
-use Rattle.channel.proofs.AlongLaws.{primed-true, track-primed, track-none, take-fewer}
+use Rattle.bounds.specs.Line.{ledCount}
+use Rattle.channel.proofs.AlongLaws.{primed-true, track-primed, track-none}
 use Rattle.channel.proofs.Channel.along.Statement.{statement}
 use Rattle.channel.proofs.Channel.along.Tie as tie
 
-no-bounds-requires : tie.Need-no-bounds-requires
-no-bounds-requires c κs = search needs
+-- no more than 900, and than either series has places for
+fits : (c : tie.After-led-count)
+    → (c .led-count .result ≤ 900)
+    × ((c .led-count .result ≤ length (c .before .args .ogas .now)) × (c .led-count .result ≤ length (c .before .args .ugas .now)))
+unfolding ledCount leastOf
+fits c = omega (arith, c .led-count .ensures)
+
+led-count-requires : tie.Need-led-count-requires
+led-count-requires c κs = search needs
 
 returns : tie.Need-returns
-returns c = rw (c .before .if1 .taken, c .no-bounds .ensures) (sym (track-none (c .before .before .args .self) (c .before .before .args .t2)))
+returns c = track-none (c .before .before .args .self) (c .before .before .args .t2) _ _ _ (sym (c .before .led-count .ensures) ∙ c .if1 .taken)
 
 array-copy-out-first : tie.Need-array-copy-out-first
 array-copy-out-first c = search needs
 
-least-requires : tie.Need-least-requires
-least-requires c κs = search needs
-
 primed-requires : tie.Need-primed-requires
 primed-requires c κs = search needs
 
--- there is a setpoint to lead along
-some : (c : tie.After-least) → 0 < c .least .result
-unfolding leastOf
-some c = omega (arith, c .least .ensures, c .before .before .if1 .left)
-
 tracked-requires : tie.Need-tracked-requires
-unfolding leastOf
 tracked-requires c κs =
-    (rw (c .primed .ensures) (primed-true (c .before .before .before .before .args .self) _), (some (c .before), omega (arith, c .before .least .ensures)))
+    let n = c .before .before .before .before .before in
+    let some = c .before .before .before .before .if1 .left in
+    ((rw (c .before .before .primed .ensures) (primed-true (n .before .args .self) _), (omega (arith, some), fits n .0)), fits n .1)
+
+same-length : tie.Need-same-length
+same-length c = search needs
+
+same-length-2 : tie.Need-same-length-2
+same-length-2 c = search needs
 
 returns-2 : tie.Need-returns-2
 returns-2 c =
-    let a = c .before .before .before .before .before in
+    let first = c .before .before .before .before .before .before in
+    let n = first .before .before .led-count in
+    let a = c .before .before .before .before .before .before .before .before .before in
     let s = getD (a .args .t2) 0 (pos 0) in
-    let full : length (a .args .t2) ≡ 900 = omega (arith, a .good) in
-    rw (c .tracked .ensures, c .before .primed .ensures, toZ-ofZ w32 s (sfits-of (c .before .before .before .first .given)))
-    (track-primed (a .args .self) (a .args .t2) (c .before .before .least .result) (some (c .before .before)) (omega arith)
-    ∙ ap (trackOf (a .args .self)) (ap (λ (n : ℕ). take n (a .args .t2)) (c .before .before .least .ensures) ∙ take-fewer (a .args .count) (a .args .t2) full))
+    let some : 0 < n .result = omega (arith, first .before .if1 .left) in
+    let all : 0 < length (a .args .t2) = omega (arith, a .good) in
+    rw (← n .ensures, ← track-primed (a .args .self) (a .args .t2) (n .result) some all)
+    (rw (c .before .before .before .before .before .primed .ensures, toZ-ofZ w32 s (sfits-of (first .first .given))) at (c .before .before .tracked .ensures))
 
 pub along-spec : {M : Type 1} → statement M
 along-spec =
     tie.close
     (tie.spec
-    no-bounds-requires
+    led-count-requires
     returns
     array-copy-out-first
-    least-requires
     primed-requires
     tracked-requires
+    same-length
+    same-length-2
     returns-2)

@@ -2,8 +2,8 @@
 -- Assumes nothing.
 use mathlib.Core.Path.{sym}
 use native.Mathlib.Omega.{arith}
-use lib.Seq.{length-take-le}
 use borrow.Author.Needs.{needs}
+use lib.Seq.{length-take-le}
 use Rattle.claims.proofs.hour.led.Statement.{statement}
 use Rattle.claims.proofs.hour.led.Tie as tie
 
@@ -15,7 +15,7 @@ array-share-prefix-setpoints c = search needs
 
 slice-aggregate-both : tie.Need-slice-aggregate-both
 slice-aggregate-both c =
-    let s = c .before .before .before .before .before in
+    let s = c .before .before in
     sym (length-take-le (s .args .windows .samples) (s .args .t3) (omega (arith, s .pre .0 .few, s .good)))
 
 array-share-prefix-actuals : tie.Need-array-share-prefix-actuals
@@ -23,24 +23,18 @@ array-share-prefix-actuals c = search needs
 
 slice-aggregate-both-2 : tie.Need-slice-aggregate-both-2
 slice-aggregate-both-2 c =
-    let s = c .before .before .before .before .before .before in
+    let s = c .before .before .before in
     sym (length-take-le (s .args .windows .samples) (s .args .t4) (omega (arith, s .pre .0 .few, s .good)))
-
-array-share-prefix-ogas : tie.Need-array-share-prefix-ogas
-array-share-prefix-ogas c = search needs
 
 slice-aggregate-both-3 : tie.Need-slice-aggregate-both-3
 slice-aggregate-both-3 c =
-    let s = c .before .before .before .before .before .before .before in
-    sym (length-take-le (s .args .windows .samples) (s .args .track .ogas) (omega (arith, s .pre .0 .ogas, s .good)))
-
-array-share-prefix-ugas : tie.Need-array-share-prefix-ugas
-array-share-prefix-ugas c = search needs
+    let s = c .before .before .before .before in
+    sym (length-take-le (s .args .windows .samples) (s .args .ogas .now) (s .pre .0 .ogas))
 
 slice-aggregate-both-4 : tie.Need-slice-aggregate-both-4
 slice-aggregate-both-4 c =
-    let s = c .before .before .before .before .before .before .before .before in
-    sym (length-take-le (s .args .windows .samples) (s .args .track .ugas) (omega (arith, s .pre .0 .ugas, s .good)))
+    let s = c .before .before .before .before .before in
+    sym (length-take-le (s .args .windows .samples) (s .args .ugas .now) (s .pre .0 .ugas))
 
 both-requires : tie.Need-both-requires
 both-requires c κs = search needs
@@ -57,9 +51,7 @@ led-spec =
     slice-aggregate-both
     array-share-prefix-actuals
     slice-aggregate-both-2
-    array-share-prefix-ogas
     slice-aggregate-both-3
-    array-share-prefix-ugas
     slice-aggregate-both-4
     both-requires
     returns)
