@@ -20,6 +20,7 @@ mod Text
 mod Samples
 mod Feed
 mod Mending
+mod Mendfeed
 mod Judging
 mod Checking
 mod Sharefeed

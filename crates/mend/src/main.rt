@@ -3,15 +3,15 @@
 use libc::STDERR_FILENO;
 use libc::STDIN_FILENO;
 use libc::STDOUT_FILENO;
-use mending::reader::Reader;
+use mendfeed::Reader;
 use sheets::Printed;
 ghost use mathlib.Core.Path.{_≡_};
 ghost use mathlib.Core.Bool.{true};
 ghost use Prim.Native.Nat.{_≤_};
 ghost use lib.ListN.{length};
 ghost use Rattle.mending.specs.Mender.{lineRoom};
-ghost use Rattle.mending.specs.Reader.{lengthOf};
-ghost use Rattle.mending.specs.Feeding.{Through};
+ghost use Rattle.mendfeed.specs.Reader.{lengthOf};
+ghost use Rattle.mendfeed.specs.Feeding.{Through};
 
 // The reader after some input, and whether all that it printed could be written out.
 struct Passed {

@@ -22,12 +22,12 @@ use Rattle.reading.specs.Entry.{entryOf}
 use Rattle.reading.specs.declared.entry.Entry.the-variants.{Malformed}
 use Rattle.mending.specs.Mending.{mended}
 use Rattle.mending.specs.Mender.{turnAt, lineTurn, finishAt, finishTurn, closedAt, lineRoom}
-use Rattle.mending.specs.Reader.{emptyReader, closedOf, finishOf}
-use Rattle.mending.specs.Feeding.{Called, Fed}
+use Rattle.mendfeed.specs.Reader.{emptyReader, closedOf, finishOf}
+use Rattle.mendfeed.specs.Feeding.{Called, Fed}
 use Rattle.mending.specs.declared.mender.Stage.{Stage}
 use Rattle.mending.specs.declared.mender.Stage.the-variants.{Empty, Open, Closed}
 use Rattle.mending.specs.declared.mender.Mender.{Mender}
-use Rattle.mending.specs.declared.reader.Reader.{Reader}
+use Rattle.mendfeed.specs.declared.Reader.{Reader}
 use Rattle.mended.proofs.Means.{mender-means}
 
 -- closed, it prints nothing and stays as it is

@@ -1,4 +1,2 @@
 pub mod Mending
 pub mod Mender
-pub mod Reader
-pub mod Feeding

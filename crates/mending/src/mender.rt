@@ -88,7 +88,7 @@ fn is_earlier(second: i32, before: Before) -> bool
 
 impl Mender {
     // Nothing was read yet.
-    pub(crate) fn new() -> Mender
+    pub fn new() -> Mender
         ensures { λ r. ⌜ r ≡ emptyMender ⌝ }
     {
         Mender {
@@ -107,7 +107,7 @@ impl Mender {
     }
 
     // Whether the end or a refusal was printed.
-    pub(crate) fn is_closed(self) -> bool
+    pub fn is_closed(self) -> bool
         ensures { λ r. ⌜ r ≡ closedAt (self .stage) ⌝ }
     {
         let stage = self.stage;
@@ -119,7 +119,7 @@ impl Mender {
     }
 
     // Whether lines are taken.
-    pub(crate) fn is_open(self) -> bool
+    pub fn is_open(self) -> bool
         ensures { λ r. ⌜ r ≡ openAt (self .stage) ⌝ }
     {
         let stage = self.stage;
@@ -351,7 +351,7 @@ impl Mender {
         }
     }
 
-    pub(crate) fn row(self, number: u64, row: Recorded, out: &mut [u8], at: usize) -> Told
+    pub fn row(self, number: u64, row: Recorded, out: &mut [u8], at: usize) -> Told
         ensures { λ r. ⌜ Turns (now (out .entry)) at (rowTurn self number row) r (now (out .exit)) ⌝ }
     {
         let sorted = self.sorted(row.second);
@@ -398,7 +398,7 @@ impl Mender {
     }
 
     // One complete line, without its LF; lines count from 1. What it says is printed from place `at` on.
-    pub(crate) fn line(self, number: u64, line: &[u8], out: &mut [u8], at: usize) -> Told
+    pub fn line(self, number: u64, line: &[u8], out: &mut [u8], at: usize) -> Told
         ensures { λ r. ⌜ Turns (now (out .entry)) at (lineTurn self number (now (line .entry))) r (now (out .exit)) ⌝ }
     {
         let stage = self.stage;
@@ -414,7 +414,7 @@ impl Mender {
     }
 
     // The input ended, after so many complete lines.
-    pub(crate) fn finish(self, count: u64, out: &mut [u8], at: usize) -> Told
+    pub fn finish(self, count: u64, out: &mut [u8], at: usize) -> Told
         ensures { λ r. ⌜ Turns (now (out .entry)) at (finishTurn self count) r (now (out .exit)) ⌝ }
     {
         if self.is_closed() {

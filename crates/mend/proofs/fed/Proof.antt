@@ -1,7 +1,7 @@
 -- `mend::fed` meets its contract. Assumes nothing.
-use Rattle.mending.proofs.UsedLaws.{at-closed, at-block-end, step}
-use Rattle.mending.specs.declared.reader.Reader.{Reader}
-use Rattle.mending.specs.Feeding.{Through}
+use Rattle.mendfeed.proofs.UsedLaws.{at-closed, at-block-end, step}
+use Rattle.mendfeed.specs.declared.Reader.{Reader}
+use Rattle.mendfeed.specs.Feeding.{Through}
 use Rattle.mending.specs.Mender.{lineRoom}
 use borrow.Author.Needs.{needs}
 use lib.ListN.{length, drop}

@@ -1,0 +1,65 @@
+-- What the calls of the reader of a recording make of a block of it, and of its end (docs/RULES.md, 'Text').
+use Prim.Native.Nat.{ℕ, _≤_}
+use mathlib.Core.Path.{_≡_}
+use mathlib.Core.Bool.{Bool, cond}
+use mathlib.Core.List.{List, _++_}
+use lib.ListN.{length, drop}
+use lib.Dec.{ltb}
+use Rattle.lines.specs.Gathering.{emptyGatherer}
+use Rattle.lines.specs.Feed.{Outcome}
+use Rattle.lines.specs.Within.{feedWithin}
+use Rattle.sheets.specs.declared.Printed.{Printed}
+use Rattle.sheets.specs.declared.Printed.the-variants.{Length, TooShort}
+use Rattle.mending.specs.Mender.{emptyMender, closedAt, lineRoom, lineTurn, finishTurn}
+use Rattle.mending.specs.declared.mender.Mender.{Mender}
+use Rattle.mendfeed.specs.declared.Reader.{Reader}
+use Rattle.mendfeed.specs.declared.Fed.{Fed}
+
+-- before the recording
+unfoldable pub emptyReader : Reader
+emptyReader = record { gatherer = emptyGatherer; mender = emptyMender }
+
+abbrev pub closedOf : Mender → Bool
+closedOf m = closedAt (m .stage)
+
+-- A BLOCK, with so much room: line by line, until the room that is left may be too short for one line more, the end or a refusal was printed, or the block ends
+abbrev pub feedOf : ℕ → Reader → List ℕ → Outcome Mender
+feedOf room reader block = feedWithin lineTurn closedOf lineRoom room (reader .gatherer) (reader .mender) block
+
+-- THE END OF THE RECORDING, after the lines that were counted
+abbrev pub finishOf : Reader → Outcome Mender
+finishOf reader =
+    record {
+      gatherer = reader .gatherer;
+      desk = finishTurn (reader .mender) (reader .gatherer .count) .desk;
+      used = 0;
+      text = finishTurn (reader .mender) (reader .gatherer .count) .text;
+    }
+
+-- the reader that an outcome leaves
+abbrev pub readerOf : Outcome Mender → Reader
+readerOf o = record { gatherer = o .gatherer; mender = o .desk }
+
+-- a text at a buffer's start, and the bytes after it as they were
+abbrev pub over : List ℕ → List ℕ → List ℕ
+over text out = text ++ drop (length text) out
+
+-- what a call answers; one that is lent a buffer too short for a line's text does nothing
+abbrev pub fedOf : List ℕ → Reader → Outcome Mender → Fed
+fedOf out reader o =
+    cond (ltb (length out) lineRoom)
+    (record { reader = reader; used = 0; printed = TooShort })
+    (record { reader = readerOf o; used = o .used; printed = Length (length (o .text)) })
+
+abbrev pub bytesOf : List ℕ → Outcome Mender → List ℕ
+bytesOf out o = cond (ltb (length out) lineRoom) out (over (o .text) out)
+
+abbrev pub lengthOf : Printed → ℕ
+lengthOf (Length n) = n
+lengthOf TooShort = 0
+
+-- and what was printed is within the buffer
+pub record Yields (out : List ℕ) (reader : Reader) (o : Outcome Mender) (r : Fed) (out′ : List ℕ) : Type 0 where
+  pub answer : r ≡ fedOf out reader o
+  pub bytes : out′ ≡ bytesOf out o
+  pub room : lengthOf (r .printed) ≤ length out
