@@ -23,7 +23,6 @@ mod script; // what the fields of a line say
 use arithmetic::money::Cents;
 use arithmetic::power::Units;
 use libc::STDIN_FILENO;
-use quarter::sheet::Sheets;
 use quarter::sheet::no_sheets;
 use settlement::run::Answer;
 use settlement::run::Run;
@@ -67,26 +66,12 @@ fn bounds_of(line: &[u8]) -> Bounds {
     }
 }
 
-fn bounds(run: Run, at: u64, line: &[u8]) -> Run {
-    let answer = run.bounds(bounds_of(line));
-    let refusal = answer.refusal;
-    answer::answered(at, refusal);
-    answer.run
-}
-
 fn contract_of(line: &[u8]) -> Contract {
     Contract {
         direction: script::direction(line, 1),
         award: script::integer(line, 2),
         price: script::integer(line, 3),
     }
-}
-
-fn contract(run: Run, at: u64, line: &[u8]) -> Run {
-    let answer = run.contract(contract_of(line), script::field(line, 4));
-    let refusal = answer.refusal;
-    answer::answered(at, refusal);
-    answer.run
 }
 
 fn sample_of(line: &[u8]) -> Sample {
@@ -96,12 +81,21 @@ fn sample_of(line: &[u8]) -> Sample {
     }
 }
 
-// What a line may give more than once: a past setpoint or a sample.
+// What a line gives to the run: the bounds of a block, a past setpoint, a contract or a sample.
 fn given(run: Run, line: &[u8]) -> Answer {
-    if script::letter(line, 0) == b'B' {
-        return run.setpoint(script::integer(line, 2));
+    match script::letter(line, 0) {
+        b'A' => return run.bounds(bounds_of(line)),
+        b'B' => return run.setpoint(script::integer(line, 2)),
+        b'C' => return run.contract(contract_of(line), script::field(line, 4)),
+        _ => return run.sample(sample_of(line)),
     }
-    run.sample(sample_of(line))
+}
+
+fn once(run: Run, at: u64, line: &[u8]) -> Run {
+    let answer = given(run, line);
+    let refusal = answer.refusal;
+    answer::answered(at, refusal);
+    answer.run
 }
 
 // The same so often: what the last answered is told, and how many were accepted.
@@ -153,18 +147,13 @@ fn heading(run: Run, at: u64) {
     answer::showed(printed, &out);
 }
 
-fn show_sheets(at: u64, refusal: Refusal, quarter: u8, sheets: Sheets) {
+// What the taking of a quarter hour answered.
+fn show_taken(taken: Taken, at: u64) {
+    let refusal = taken.refusal;
     answer::answered(at, refusal);
     let mut out = answer::dotted();
-    let printed = print_quarter(&mut out, quarter, sheets);
+    let printed = print_quarter(&mut out, taken.quarter, taken.sheets);
     answer::showed(printed, &out);
-}
-
-fn take(run: Run, at: u64) -> Taken {
-    let taken = run.take();
-    let refusal = taken.refusal;
-    show_sheets(at, refusal, taken.quarter, taken.sheets);
-    taken
 }
 
 // The printing calls whose numbers all stand in the line.
@@ -198,9 +187,9 @@ fn printed_block(run: Run, out: &mut [u8]) -> Printed {
 // The printing call of a line.
 fn printed(held: Taken, line: &[u8], out: &mut [u8]) -> Printed {
     match script::letter(line, 0) {
-        b'Q' => print_quarter(out, script::byte(line, 3), held.sheets),
-        b'P' => printed_block(held.run, out),
-        _ => printed_numbers(line, out),
+        b'Q' => return print_quarter(out, script::byte(line, 3), held.sheets),
+        b'P' => return printed_block(held.run, out),
+        _ => return printed_numbers(line, out),
     }
 }
 
@@ -227,14 +216,10 @@ fn not_printed(at: u64, refusal: Refusal, line: &[u8]) {
     answer::buffer(&buf[..n]);
 }
 
-fn end_refusal(run: Run) -> Refusal {
-    let ended = run.end();
-    ended.refusal
-}
-
 // The block that the run hands on, once it can be ended; before that no byte is printed.
 fn block(held: Taken, at: u64, line: &[u8]) {
-    let refusal = end_refusal(held.run);
+    let ended = held.run.end();
+    let refusal = ended.refusal;
     if refusal.number() == 0 {
         return print(held, at, line);
     }
@@ -249,10 +234,12 @@ fn called(mut held: Taken, at: u64, line: &[u8]) -> Taken {
             held.run = open(at, line);
             held.sheets = no_sheets();
         }
-        b'A' => held.run = bounds(held.run, at, line),
-        b'C' => held.run = contract(held.run, at, line),
+        b'A' | b'C' => held.run = once(held.run, at, line),
         b'B' | b'S' => held.run = repeated(held.run, at, line),
-        b'K' => return take(held.run, at),
+        b'K' => {
+            held = held.run.take();
+            show_taken(held, at);
+        }
         b'E' => held.run = end(held.run, at),
         b'H' => heading(held.run, at),
         b'P' => block(held, at, line),
