@@ -76,27 +76,36 @@ returns-2 c =
     let inv = c .before .before .before .before .before .loop .inv in
     finished (inv .7) (other-first _ _ _ (sym (no-front (rw (c .enum-told .given .1) at (c .before .before .front-at .ensures)) .is)))
 
+-- where the function began, and the turn of the loop, seen from where a front was found
+abbrev start : tie.After-front Inv-loop μ-loop → tie.Start Inv-loop μ-loop
+start c = c .before .before .before .before .before .before .before .before
+
+abbrev turn : tie.After-front Inv-loop μ-loop → tie.At-loop Inv-loop μ-loop
+turn c = c .before .before .before .before .before
+
+-- where a front was found, seen from where the rest of its line was looked at
+abbrev front-of : tie.After-row-at Inv-loop μ-loop → tie.After-front Inv-loop μ-loop
+front-of c = c .before .before .before
+
+-- where the function began, seen from where its row was read
+abbrev row-start : tie.After-row Inv-loop μ-loop → tie.Start Inv-loop μ-loop
+row-start c = start (front-of (c .before .before))
+
 -- a front was found
-heads : (c : tie.After-front Inv-loop μ-loop)
-    → Heads (c .before .before .before .before .before .before .before .before .args .lines .now) (c .before .before .before .before .before .loop .i) (c .front .given .0 .0)
+heads : (c : tie.After-front Inv-loop μ-loop) → Heads (start c .args .lines .now) (turn c .loop .i) (c .front .given .0 .0)
 heads c = (rw (c .front .given .1) at (c .before .before .front-at .ensures)) .sound _ refl
 
 row-at-requires : tie.Need-row-at-requires Inv-loop μ-loop
 row-at-requires c κs =
     let at-front = c .before .before in
-    let entry = at-front .before .before .before .before .before .before .before .before in
-    after-tab (entry .pre .0) (heads at-front .field)
+    after-tab (start at-front .pre .0) (heads at-front .field)
 
 -- and the rest of its line was looked at
-began : (c : tie.After-row-at Inv-loop μ-loop)
-    → Began (c .before .before .before .before .before .before .before .before .before .before .before .args .lines .now)
-    (c .before .before .before .before .before .before .before .before .loop .i) (c .row-at .result)
+began : (c : tie.After-row-at Inv-loop μ-loop) → Began (start (front-of c) .args .lines .now) (turn (front-of c) .loop .i) (c .row-at .result)
 began c =
-    let at-front = c .before .before .before in
-    let at-if = at-front .before .before .before in
-    let entry = at-if .before .before .before .before .before in
+    let at-front = front-of c in
     let h = heads at-front in
-    by-front (record { within = at-if .if1 .left; ended = entry .pre .0 .ended }) h (rw (range-back _ (h .field .ranged)) at (c .row-at .ensures))
+    by-front (record { within = at-front .before .before .before .if1 .left; ended = start at-front .pre .0 .ended }) h (rw (range-back _ (h .field .ranged)) at (c .row-at .ensures))
 
 enum-known-row : tie.Need-enum-known-row Inv-loop μ-loop
 enum-known-row c = search needs
@@ -111,36 +120,28 @@ sub-t23 : tie.Need-sub-t23 Inv-loop μ-loop
 sub-t23 c = omega arith
 
 same-length-5 : tie.Need-same-length-5 Inv-loop μ-loop
-same-length-5 c = c .before .before .before .before .before .before .before .before .before .before .loop .inv .4
+same-length-5 c = turn (front-of (c .before .before)) .loop .inv .4
 
 same-length-6 : tie.Need-same-length-6 Inv-loop μ-loop
-same-length-6 c = c .before .before .before .before .before .before .before .before .before .before .loop .inv .5
+same-length-6 c = turn (front-of (c .before .before)) .loop .inv .5
 
 returns-3 : tie.Need-returns-3 Inv-loop μ-loop
 returns-3 c =
     let at-row-at = c .before .before in
-    let inv = at-row-at .before .before .before .before .before .before .before .before .loop .inv in
+    let inv = turn (front-of at-row-at) .loop .inv in
     finished (inv .7) (other-first _ _ _ (sym (began at-row-at .is) ∙ c .enum-told2 .given .1))
 
 mul-setpoint : tie.Need-mul-setpoint Inv-loop μ-loop
-mul-setpoint c = search (
-  needs,
-  c .before .before .before .before .before .before .before .before .before .before .before .before .before .before .before .before .pre,
-  c .before .before .before .before .before .before .before .before .before .before .before .before .before .before .before .before .good,
-)
+mul-setpoint c = search (needs, row-start (c .before .before .before) .pre, row-start (c .before .before .before) .good)
 
 slice-set-from-setpoint : tie.Need-slice-set-from-setpoint Inv-loop μ-loop
 slice-set-from-setpoint c = omega arith
 
 mul-actual : tie.Need-mul-actual Inv-loop μ-loop
-mul-actual c = search (
-  needs,
-  c .before .before .before .before .before .before .before .before .before .before .before .before .before .before .before .before .pre,
-  c .before .before .before .before .before .before .before .before .before .before .before .before .before .before .before .before .good,
-)
+mul-actual c = search (needs, row-start (c .before .before .before) .pre, row-start (c .before .before .before) .good)
 
 slice-set-from-actual : tie.Need-slice-set-from-actual Inv-loop μ-loop
-slice-set-from-actual c = omega (arith, c .before .before .before .before .before .before .before .before .before .before .before .before .before .before .before .before .pre)
+slice-set-from-actual c = omega (arith, row-start (c .before .before .before) .pre)
 
 add-k : tie.Need-add-k Inv-loop μ-loop
 add-k c = omega arith
@@ -152,7 +153,7 @@ loop-again : tie.Need-loop-again Inv-loop μ-loop
 loop-again c =
     let at-row = c .before .before .before in
     let at-row-at = at-row .before .before in
-    let at-front = at-row-at .before .before .before in
+    let at-front = front-of at-row-at in
     let at-loop-test = at-front .before .before .before .before in
     let inv = at-loop-test .before .loop .inv in
     let f = heads at-front in

@@ -20,6 +20,16 @@ Inv-loop block gaps₀ surpluses₀ shares₀ reader₀ i₀ gaps surpluses shar
 abbrev μ-loop : tie.MeasureT-loop
 μ-loop block gaps₀ surpluses₀ shares₀ reader₀ i₀ gaps surpluses shares reader i = length block - i
 
+-- where the function began, the turn of the loop, and the part of the block that was gathered, seen from where the checker was told of it
+abbrev start : tie.After-after Inv-loop μ-loop → tie.Start Inv-loop μ-loop
+start c = c .before .before .before .before .before .before .before .before .before .before
+
+abbrev turn : tie.After-after Inv-loop μ-loop → tie.At-loop Inv-loop μ-loop
+turn c = c .before .before .before .before .before .before .before
+
+abbrev part : tie.After-after Inv-loop μ-loop → tie.After-gather Inv-loop μ-loop
+part c = c .before .before .before .before
+
 loop-holds : tie.Need-loop-holds Inv-loop μ-loop
 loop-holds c = (omega arith, refl, refl, refl, refl)
 
@@ -41,38 +51,33 @@ after-requires c κs = search needs
 add-i : tie.Need-add-i Inv-loop μ-loop
 add-i c =
     let at-after = c .before .before .before .before .before in
-    let at-gather = at-after .before .before .before .before in
-    let at-test = at-gather .before .before in
-    let start = at-test .before .before .before .before in
-    let l = at-test .before .loop in
+    let at-gather = part at-after in
+    let l = turn at-after .loop in
     let s = standing (l .reader .checker) (keeping (l .gaps) (l .surpluses) (l .shares)) in
     let step =
-    part-of-block (l .reader .gatherer) s (now (start .args .block)) (l .i) (at-gather .gather .result) (at-test .loop-test .taken)
+    part-of-block (l .reader .gatherer) s (now (start at-after .args .block)) (l .i) (at-gather .gather .result) (at-gather .before .before .loop-test .taken)
     (at-gather .gather .ensures) (at-after .after .ensures) in
-    omega (arith, step .within, start .good)
+    omega (arith, step .within, start at-after .good)
 
 loop-less : tie.Need-loop-less Inv-loop μ-loop
 loop-less c =
     let at-after = c .before .before .before .before .before in
-    let at-gather = at-after .before .before .before .before in
-    let at-test = at-gather .before .before in
-    let start = at-test .before .before .before .before in
-    let l = at-test .before .loop in
+    let at-gather = part at-after in
+    let l = turn at-after .loop in
     let s = standing (l .reader .checker) (keeping (l .gaps) (l .surpluses) (l .shares)) in
     let step =
-    part-of-block (l .reader .gatherer) s (now (start .args .block)) (l .i) (at-gather .gather .result) (at-test .loop-test .taken)
+    part-of-block (l .reader .gatherer) s (now (start at-after .args .block)) (l .i) (at-gather .gather .result) (at-gather .before .before .loop-test .taken)
     (at-gather .gather .ensures) (at-after .after .ensures) in
     omega (arith, step .some, step .within)
 
 loop-again : tie.Need-loop-again Inv-loop μ-loop
 loop-again c =
-    let l = c .before .before .before .before .before .before .before .before .before .before .before .before .loop in
+    let l = turn (c .before .before .before .before .before) .loop in
     let s = standing (l .reader .checker) (keeping (l .gaps) (l .surpluses) (l .shares)) in
     let step =
-    part-of-block (l .reader .gatherer) s (now (c .before .before .before .before .before .before .before .before .before .before .before .before .before .before .before .args .block))
-    (l .i) (c .before .before .before .before .before .before .before .before .before .gather .result) (c .before .before .before .before .before .before .before .before .before .before .before .loop-test .taken)
-    (c .before .before .before .before .before .before .before .before .before .gather .ensures) (c .before .before .before .before .before .after .ensures)
-    in
+    part-of-block (l .reader .gatherer) s (now (start (c .before .before .before .before .before) .args .block)) (l .i)
+    (part (c .before .before .before .before .before) .gather .result) (part (c .before .before .before .before .before) .before .before .loop-test .taken)
+    (part (c .before .before .before .before .before) .gather .ensures) (c .before .before .before .before .before .after .ensures) in
     (omega (arith, step .within), l .inv .1 ∙ step .is, search (needs, l .inv .2), search (needs, l .inv .3), search (needs, l .inv .4))
 
 same-length : tie.Need-same-length Inv-loop μ-loop
