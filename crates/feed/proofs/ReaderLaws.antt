@@ -5,7 +5,7 @@ use mathlib.Core.Bool.{Bool, true, false, cond}
 use mathlib.Core.List.{List, [], _∷_}
 use native.Mathlib.Omega.{arith}
 use native.Mathlib.Nat.{add-zero}
-use borrow.Author.Tests.{le-ltb, lt-ltb, le-leb, eqb-true}
+use borrow.Author.Tests.{le-ltb, lt-ltb, le-leb}
 use lib.Dec.{leb}
 use lib.ListN.{length, take, drop, length-drop, length-append, drop-of-length-le}
 use lib.Seq.{drop-drop, sets, length-sets}
@@ -15,7 +15,7 @@ use Rattle.vocabulary.specs.declared.sample.Sample.{Sample}
 use Rattle.fields.proofs.DigitLaws.{to-end}
 use Rattle.lines.specs.Feed as lines
 use Rattle.lines.specs.Feed.{Start, Outcome, stay, forth, onTurn, onward, lineAt}
-use Rattle.lines.specs.Gathering.{freshOf, pastOf, gatheredOf, Starts}
+use Rattle.lines.specs.Gathering.{freshOf, pastOf, gatheredOf}
 use Rattle.lines.specs.Handing.{heldBy}
 use Rattle.lines.specs.Turns.{quiet}
 use Rattle.lines.specs.declared.Gatherer.{Gatherer}
@@ -367,10 +367,6 @@ module _ (reader : Reader) (block : List ℕ) (at : ℕ) (out : List ℕ) (o : c
 
 pub other-out : {reader : Reader} {block : List ℕ} {at : ℕ} {out out₁ out′ : List ℕ} {r : Moved} → out₁ ≡ out → Moves reader block at out₁ r out′ → Moves reader block at out r out′
 other-out {reader} {block} {at} {out′ = out′} {r = r} e s = subst (λ (l : List ℕ). Moves reader block at l r out′) e s
-
--- where a line starts
-pub start-of : {g : Gatherer} {r : Bool} → Starts g r → r ≡ true → Start g
-start-of {g} s e = record { room = s .room; nothing = eqb-true (g .length) 0 (sym (s .is) ∙ e) }
 
 -- ---- ALL STEPS: what was read so far came to a reader at place i, and printed nothing
 

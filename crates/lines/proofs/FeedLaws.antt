@@ -6,7 +6,7 @@ use mathlib.Core.List.{List, [], _∷_, _++_, append-assoc, append-nil}
 use native.Mathlib.Omega.{arith}
 use native.Mathlib.Decide.{ℕ-discrete}
 use native.Mathlib.Numerals.{one-add}
-use borrow.Author.Tests.{eq-eqb, ne-eqb}
+use borrow.Author.Tests.{eq-eqb, ne-eqb, eqb-true}
 use native.Mathlib.Nat.{mod-add-mod}
 use lib.ListN.{length, take, drop, replicate}
 use lib.Seq.{drop-append-add}
@@ -14,7 +14,7 @@ use Rattle.lines.specs.Lines.{keptOf}
 use Rattle.lines.specs.Handing.{heldBy}
 use Rattle.lines.proofs.Held.{Holds, longer-holds, same-count, kept-whole}
 use Rattle.lines.proofs.LineLaws.{NoLf, none, another}
-use Rattle.lines.specs.Gathering.{freshOf, pastOf, longerBy, completed, further, gatheredOf}
+use Rattle.lines.specs.Gathering.{Starts, freshOf, pastOf, longerBy, completed, further, gatheredOf}
 use Rattle.lines.specs.declared.Gatherer.{Gatherer}
 use Rattle.lines.specs.declared.Gathered.{Gathered}
 use Rattle.lines.proofs.Reading.{ends, goes-on}
@@ -116,9 +116,17 @@ a-line g begun rest h (another {byte} {bytes} n r) =
         → _≡_ {A = Gathered} (record { gatherer = completed g; used = 1 + (n + 1); complete = true }) (record { gatherer = completed g; used = suc n + 1; complete = true })
     one-more g n = let e : 1 + (n + 1) ≡ suc n + 1 = omega arith in rw e
 
-start-holds : {g : Gatherer} → Start g → Holds g []
+-- where a line starts
+pub start-of : {g : Gatherer} {r : Bool} → Starts g r → r ≡ true → Start g
+start-of {g} s e = record { room = s .room; nothing = eqb-true (g .length) 0 (sym (s .is) ∙ e) }
+
+pub start-holds : {g : Gatherer} → Start g → Holds g []
 unfolding keptOf
 start-holds {g} s = record { room = s .room; size = s .nothing; held = ap (λ (n : ℕ). take n (g .bytes)) (s .nothing) }
+
+-- past a line and its LF
+pub past-line : (line rest : List ℕ) → drop (length line + 1) (line ++ (10 ∷ rest)) ≡ rest
+past-line line rest = let e : length line + 1 ≡ length line + suc 0 = omega arith in ap (λ (k : ℕ). drop k (line ++ (10 ∷ rest))) e ∙ drop-append-add line (10 ∷ rest) 1
 
 pub past-start : (n : ℕ) (g : Gatherer) → Start (pastOf n g)
 unfolding pastOf
@@ -139,12 +147,10 @@ module _ {D : Type 0} (turn : D → ℕ → List ℕ → Turn D) (closed : D →
   whole-line {line} g d rest o s n few =
       let q = a-line g [] rest (start-holds s) n in
       let h : heldBy (q .at-hand) ≡ line = q .holds .held ∙ kept-whole line (omega arith) in
-      let e : length line + 1 ≡ length line + suc 0 = omega arith in
-      let r : drop (length line + 1) (line ++ (10 ∷ rest)) ≡ rest = ap (λ (k : ℕ). drop k (line ++ (10 ∷ rest))) e ∙ drop-append-add line (10 ∷ rest) 1 in
       by-line turn closed (line ++ (10 ∷ rest)) g d o
       ∙ ap (onGathered turn closed d (line ++ (10 ∷ rest))) (q .gathered)
       ∙ ap (λ (c : ℕ). onward turn closed (at c) (turn d ((c + 1) % 2 ^ 64) (heldBy (q .at-hand))) (length line + 1) (drop (length line + 1) (line ++ (10 ∷ rest)))) (q .count)
-      ∙ rw (h, r)
+      ∙ rw (h, past-line line rest)
     where
       at : ℕ → Gatherer
       at c = record { bytes = replicate 81 0; length = 0; count = (c + 1) % 2 ^ 64 }

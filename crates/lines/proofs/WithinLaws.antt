@@ -1,6 +1,6 @@
 -- A block for a desk that prints for most of its lines: a line at a time; and it goes on where it stopped, with what it printed before what follows.
 -- Assumes nothing.
-use Prim.Native.Nat.{ℕ, _+_, _-_, _≤_, _<_}
+use Prim.Native.Nat.{ℕ, _+_, _-_, _%_, _^_, _≤_, _<_}
 use mathlib.Core.Path.{_≡_, refl, sym, ap, subst, _∙_}
 use mathlib.Core.Bool.{Bool, true, false, cond}
 use mathlib.Core.Logic.{⊎-elim}
@@ -9,16 +9,19 @@ use native.Mathlib.Omega.{arith}
 use native.Mathlib.Decide.{ℕ-discrete}
 use native.Mathlib.Numerals.{one-add}
 use borrow.Author.Tests.{eq-eqb, ne-eqb}
-use lib.ListN.{length, drop}
-use Rattle.lines.specs.Gathering.{freshOf, longerBy, completed, further, gatheredOf}
-use Rattle.lines.specs.Handing.{afterBytes}
+use lib.ListN.{length, drop, replicate}
+use Rattle.lines.specs.Gathering.{freshOf, pastOf, longerBy, completed, further, gatheredOf}
+use Rattle.lines.specs.Handing.{heldBy, afterBytes}
 use Rattle.lines.specs.declared.Gatherer.{Gatherer}
 use Rattle.lines.specs.declared.Gathered.{Gathered}
 use Rattle.lines.specs.Turns.{Turn}
-use Rattle.lines.specs.Feed.{Outcome, stay, forth, lineAt}
+use Rattle.lines.specs.Feed.{Start, Outcome, stay, forth, lineAt}
 use Rattle.lines.specs.Within.{andThen, rests, feedWithin}
 use Rattle.lines.proofs.Reading.{ends, goes-on}
 use Rattle.lines.proofs.Calls.{after-end, after-other}
+use Rattle.lines.proofs.Held.{kept-whole}
+use Rattle.lines.proofs.LineLaws.{NoLf}
+use Rattle.lines.proofs.FeedLaws.{a-line, start-holds, past-line}
 use Rattle.lines.proofs.FeedMeaning.{told, handleBy, at, Goes, stays, one-byte, as-outcome}
 
 -- further on to a turn
@@ -85,6 +88,30 @@ module _ {D : Type 0} (turn : D → ℕ → List ℕ → Turn D) (closed : D →
             ∙ one-further room d byte bytes (gatheredOf (longerBy g byte) bytes)
             ∙ ap (onGathered room d (byte ∷ bytes)) (sym (goes-on g byte bytes other))
       ]
+
+  -- ONE LINE OF AT MOST 80 BYTES, FROM ITS START
+  abbrev turnFrom : D → Gatherer → List ℕ → Turn D
+  turnFrom d g line = turn d ((g .count + 1) % 2 ^ 64) line
+
+  pub whole-line : {line : List ℕ} (room : ℕ) (g : Gatherer) (d : D) (rest : List ℕ) → rests turn closed most d room ≡ false → Start g → NoLf line → length line ≤ 80
+      → fed room g d (line ++ (10 ∷ rest))
+      ≡ andThen (turnFrom d g line .text) (length line + 1) (fed (room - length (turnFrom d g line .text)) (pastOf 1 g) (turnFrom d g line .desk) rest)
+  unfolding completed freshOf pastOf
+  whole-line {line} room g d rest o s n few =
+      let q = a-line g [] rest (start-holds s) n in
+      let h : heldBy (q .at-hand) ≡ line = q .holds .held ∙ kept-whole line (omega arith) in
+      by-line (line ++ (10 ∷ rest)) room g d o
+      ∙ ap (onGathered room d (line ++ (10 ∷ rest))) (q .gathered)
+      ∙ ap (λ (c : ℕ). then c (heldBy (q .at-hand)) (drop (length line + 1) (line ++ (10 ∷ rest)))) (q .count)
+      ∙ rw (h, past-line line rest)
+    where
+      at-count : ℕ → Gatherer
+      at-count c = record { bytes = replicate 81 0; length = 0; count = (c + 1) % 2 ^ 64 }
+
+      then : ℕ → List ℕ → List ℕ → Outcome D
+      then c held left =
+          let t = turn d ((c + 1) % 2 ^ 64) held in
+          andThen (t .text) (length line + 1) (fed (room - length (t .text)) (at-count c) (t .desk) left)
 
   -- WHAT FOLLOWS THE BLOCK CHANGES NOTHING, AND IS READ FROM WHERE THE FEEDING STOPPED
   pub goes-on-within : (block rest : List ℕ) (room : ℕ) (g : Gatherer) (d : D) (so : List ℕ) → Goes turn closed g d so block rest (fed room g d block)

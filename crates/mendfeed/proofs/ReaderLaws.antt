@@ -6,13 +6,13 @@ use mathlib.Core.Bool.{Bool, true, false, cond}
 use mathlib.Core.List.{List, [], _++_, append-assoc, append-nil}
 use native.Mathlib.Omega.{arith}
 use native.Mathlib.Nat.{add-zero}
-use borrow.Author.Tests.{le-ltb, lt-ltb, eqb-true}
+use borrow.Author.Tests.{le-ltb, lt-ltb}
 use lib.ListN.{length, take, drop, length-drop, length-append, drop-of-length-le}
 use lib.Seq.{drop-drop}
 use Rattle.fields.proofs.DigitLaws.{to-end}
-use Rattle.lines.specs.Feed.{Start, Outcome, stay, lineAt}
+use Rattle.lines.specs.Feed.{Outcome, stay, lineAt}
 use Rattle.lines.specs.Within.{andThen, rests}
-use Rattle.lines.specs.Gathering.{Starts, freshOf, gatheredOf}
+use Rattle.lines.specs.Gathering.{freshOf, gatheredOf}
 use Rattle.lines.specs.Handing.{heldBy}
 use Rattle.lines.specs.declared.Gatherer.{Gatherer}
 use Rattle.lines.specs.declared.Gathered.{Gathered}
@@ -186,10 +186,6 @@ line-steps o enough m = record { within = m .within; some = m .some; so = so-ste
 pub line-steps-then : {reader : Reader} {block : List ℕ} {at : ℕ} {out : List ℕ} {from : ℕ} {r : Moved} {out′ out″ : List ℕ} → closedOf (reader .mender) ≡ false → lineRoom ≤ length out - from
     → out′ ≡ out → Moves reader block at out′ from r out″ → Steps reader block at out from r out″
 line-steps-then {reader} {block} {at} {out} {from} {r} {out′} {out″} o enough same m = line-steps o enough (subst (λ (l : List ℕ). Moves reader block at l from r out″) same m)
-
--- where a line starts
-pub start-of : {g : Gatherer} {r : Bool} → Starts g r → r ≡ true → Start g
-start-of {g} s e = record { room = s .room; nothing = eqb-true (g .length) 0 (sym (s .is) ∙ e) }
 
 module _ {start : Reader} {block out₀ : List ℕ} {reader : Reader} {i next : ℕ} {out : List ℕ} (so : So start block 0 out₀ 0 reader i next out) where
   -- no step more

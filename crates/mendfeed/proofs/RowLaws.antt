@@ -2,24 +2,20 @@
 -- Assumes nothing.
 use Prim.Native.Nat.{ℕ, zero, suc, _+_, _-_, _%_, _^_, _≤_, _<_}
 use mathlib.Core.Path.{_≡_, refl, sym, ap, subst, _∙_}
-use mathlib.Core.Bool.{Bool, true, false}
-use mathlib.Core.List.{List, [], _∷_, _++_}
+use mathlib.Core.Bool.{true}
+use mathlib.Core.List.{List, _∷_}
 use native.Mathlib.Omega.{arith}
 use native.Mathlib.Nat.{mod-add-mod}
 use native.Mathlib.Numerals.{add-one}
-use lib.ListN.{length, take, drop, replicate, length-drop, length-append}
-use lib.Seq.{drop-append-add, drop-drop}
+use lib.ListN.{length, drop, length-drop, length-append}
+use lib.Seq.{drop-drop}
 use Rattle.arithmetic.proofs.Booleans.{true-false}
-use Rattle.lines.specs.Lines.{keptOf}
-use Rattle.lines.specs.Gathering.{startAt, freshOf, pastOf, completed}
-use Rattle.lines.specs.Handing.{heldBy}
-use Rattle.lines.specs.Feed.{Start, Outcome}
-use Rattle.lines.specs.Within.{andThen, rests, feedWithin}
+use Rattle.lines.specs.Gathering.{startAt, pastOf}
+use Rattle.lines.specs.Feed.{Start}
+use Rattle.lines.specs.Within.{andThen, feedWithin}
 use Rattle.lines.specs.declared.Gatherer.{Gatherer}
-use Rattle.lines.proofs.Held.{Holds, kept-whole}
-use Rattle.lines.proofs.LineLaws.{NoLf}
-use Rattle.lines.proofs.FeedLaws.{a-line, past-start, past-past}
-use Rattle.lines.proofs.WithinLaws.{by-line, onGathered}
+use Rattle.lines.proofs.FeedLaws.{past-line, past-start, past-past}
+use Rattle.lines.proofs.WithinLaws.{whole-line}
 use Rattle.reading.specs.Entry.{entryOf}
 use Rattle.reading.specs.declared.entry.Entry.the-variants as E
 use Rattle.vocabulary.specs.declared.recorded.Recorded.{Recorded}
@@ -38,38 +34,6 @@ use Rattle.mendfeed.specs.declared.Reader.{Reader}
 use Rattle.mendfeed.specs.declared.Moved.{Moved}
 use Rattle.mendfeed.specs.declared.Ran.{Ran}
 use Rattle.mendfeed.proofs.ReaderLaws.{so-none, so-then, so-step}
-
--- ---- ONE LINE OF AT MOST 80 BYTES, FROM ITS START
-
-start-holds : {g : Gatherer} → Start g → Holds g []
-unfolding keptOf
-start-holds {g} s = record { room = s .room; size = s .nothing; held = ap (λ (n : ℕ). take n (g .bytes)) (s .nothing) }
-
-past-line : (line rest : List ℕ) → drop (length line + 1) (line ++ (10 ∷ rest)) ≡ rest
-past-line line rest = let e : length line + 1 ≡ length line + suc 0 = omega arith in ap (λ (k : ℕ). drop k (line ++ (10 ∷ rest))) e ∙ drop-append-add line (10 ∷ rest) 1
-
-abbrev turnFrom : Mender → Gatherer → List ℕ → Turn
-turnFrom m g line = lineTurn m ((g .count + 1) % 2 ^ 64) line
-
-whole-line : {line : List ℕ} (room : ℕ) (g : Gatherer) (m : Mender) (rest : List ℕ) → rests lineTurn closedOf lineRoom m room ≡ false → Start g → NoLf line → length line ≤ 80
-    → feedWithin lineTurn closedOf lineRoom room g m (line ++ (10 ∷ rest))
-    ≡ andThen (turnFrom m g line .text) (length line + 1) (feedWithin lineTurn closedOf lineRoom (room - length (turnFrom m g line .text)) (pastOf 1 g) (turnFrom m g line .desk) rest)
-unfolding completed freshOf pastOf
-whole-line {line} room g m rest o s n few =
-    let q = a-line g [] rest (start-holds s) n in
-    let h : heldBy (q .at-hand) ≡ line = q .holds .held ∙ kept-whole line (omega arith) in
-    by-line lineTurn closedOf lineRoom (line ++ (10 ∷ rest)) room g m o
-    ∙ ap (onGathered lineTurn closedOf lineRoom room m (line ++ (10 ∷ rest))) (q .gathered)
-    ∙ ap (λ (c : ℕ). then c (heldBy (q .at-hand)) (drop (length line + 1) (line ++ (10 ∷ rest)))) (q .count)
-    ∙ rw (h, past-line line rest)
-  where
-    at : ℕ → Gatherer
-    at c = record { bytes = replicate 81 0; length = 0; count = (c + 1) % 2 ^ 64 }
-
-    then : ℕ → List ℕ → List ℕ → Outcome Mender
-    then c held left =
-        let t = lineTurn m ((c + 1) % 2 ^ 64) held in
-        andThen (t .text) (length line + 1) (feedWithin lineTurn closedOf lineRoom (room - length (t .text)) (at c) (t .desk) left)
 
 -- ---- A RECORDED SAMPLE
 
@@ -100,7 +64,7 @@ row-moves {m} {g} {block} {at} {e} {out} {from} {told} {out′} o s l t =
       some = omega arith;
       is = λ room reads.
           ap (feedWithin lineTurn closedOf lineRoom room g m) (l .form)
-          ∙ whole-line room g m (l .rest) reads s (l .no-lf) (l .few)
+          ∙ whole-line lineTurn closedOf lineRoom room g m (l .rest) reads s (l .no-lf) (l .few)
           ∙ ap (λ (x : Turn). andThen (x .text) (length (l .line) + 1) (feedWithin lineTurn closedOf lineRoom (room - length (x .text)) (pastOf 1 g) (x .desk) (l .rest)))
           (row-turn m ((g .count + 1) % 2 ^ 64) (l .line) (e .recorded) o (l .says))
           ∙ ap (λ (d : Mender). andThen (turn .text) (length (l .line) + 1) (feedWithin lineTurn closedOf lineRoom (room - length (turn .text)) (pastOf 1 g) d (l .rest))) (sym (t .mender))

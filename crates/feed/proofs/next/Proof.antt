@@ -1,5 +1,6 @@
 -- `feed::next` meets its contract. Assumes nothing.
-use Rattle.feed.proofs.ReaderLaws.{found-line, found-stretch, same-arrays, start-of}
+use Rattle.lines.proofs.FeedLaws.{start-of}
+use Rattle.feed.proofs.ReaderLaws.{found-line, found-stretch, same-arrays}
 use borrow.Author.Tests.{not-false}
 use mathlib.Core.Path.{refl}
 use borrow.Author.Needs.{needs}

@@ -1,7 +1,8 @@
 -- `mendfeed::Reader::step` meets its contract. Assumes nothing.
 use native.Mathlib.Omega.{arith}
 use borrow.Author.Tests.{not-false}
-use Rattle.mendfeed.proofs.ReaderLaws.{start-of, line-steps, line-steps-then}
+use Rattle.lines.proofs.FeedLaws.{start-of}
+use Rattle.mendfeed.proofs.ReaderLaws.{line-steps, line-steps-then}
 use borrow.Author.Needs.{needs}
 use Rattle.mendfeed.proofs.Reader.step.Statement.{statement}
 use Rattle.mendfeed.proofs.Reader.step.Tie as tie
