@@ -5,7 +5,7 @@ use mathlib.Core.Path.{_≡_}
 use Rattle.vocabulary.specs.declared.refusal.Refusal.{Refusal}
 use Rattle.vocabulary.specs.Refusals.{numberOf}
 use Rattle.settlement.specs.declared.run.Run.{Run}
-use Rattle.judging.proofs.RefusalLaws.{none-refused, some-refused}
+use Rattle.vocabulary.proofs.RefusalLaws.{none-refused, some-refused}
 use Rattle.checking.specs.Checker.{stoppedBy, unless}
 use Rattle.checking.specs.declared.checker.Checker.{Checker}
 

@@ -4,13 +4,13 @@ use mathlib.Core.Path.{_≡_, refl, sym, ap, subst, _∙_}
 use mathlib.Core.Bool.{Bool, true, false, not, cond}
 use mathlib.Core.List.{List, []}
 use native.Mathlib.Omega.{arith}
-use borrow.Author.Tests.{eq-eqb, ne-eqb}
 use lib.ListN.{length}
 use Rattle.print.specs.Print.{last}
 use Rattle.vocabulary.specs.declared.refusal.Refusal.{Refusal}
 use Rattle.vocabulary.specs.declared.refusal.Refusal.the-variants.{BadPower, NoEnd}
 use Rattle.vocabulary.specs.Refusals.{numberOf, accepted}
 use Rattle.vocabulary.specs.Sample.{powerInRange}
+use Rattle.vocabulary.proofs.RefusalLaws.{none-refused, some-refused}
 use Rattle.arithmetic.proofs.Booleans.{true-false}
 use Rattle.vocabulary.specs.declared.recorded.Recorded.{Recorded}
 use Rattle.lines.specs.Turns.{quiet}
@@ -46,16 +46,13 @@ pub refused-told : {out out′ : List ℕ} {at : ℕ} (m : Mender) (n : ℕ) (re
 unfolding refusedTurn
 refused-told m n refusal e w = record { mender = e; text = rw (refused-text n refusal) (wider lineRoom (omega arith) w) }
 
--- what a refusal's number says of it
+-- a call's refusal is the line's, or there is none
 module _ {k : ℕ} {said refusal : Refusal} (e : k ≡ numberOf said) (s : said ≡ refusal) where
-  pub none-refused : k ≡ 0 → accepted refusal ≡ true
-  none-refused z = rw (← s, ← e) (eq-eqb k 0 z)
-
   pub refuses : (m : Mender) (n : ℕ) (turn : Turn) → (k ≡ 0 → ⊥) → refusedTurn m n said ≡ unless m n refusal turn
-  refuses m n turn z = rw (← s, ← e, ne-eqb k 0 z)
+  refuses m n turn z = rw (some-refused e s z, s)
 
   pub goes-on : (m : Mender) (n : ℕ) (turn : Turn) → k ≡ 0 → turn ≡ unless m n refusal turn
-  goes-on m n turn z = rw (← s, ← e, eq-eqb k 0 z)
+  goes-on m n turn z = rw (none-refused e s z)
 
 -- a line that is not refused is not refused for what is missing before it
 pub sorted-none : (m : Mender) (sorted : Sorted) (row : Recorded) → accepted (rowRefusal m sorted row) ≡ true → accepted (sortedRefusal m sorted) ≡ true

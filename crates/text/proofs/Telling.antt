@@ -4,12 +4,12 @@ use mathlib.Core.Path.{_≡_, refl, ap, sym, subst, _∙_}
 use mathlib.Core.Bool.{true, false, cond}
 use mathlib.Core.List.{List}
 use native.Mathlib.Omega.{arith}
-use borrow.Author.Tests.{eq-eqb, ne-eqb}
 use lib.ListN.{length}
 use lib.Dec.{leb·zero}
 use Rattle.vocabulary.specs.declared.refusal.Refusal.{Refusal}
 use Rattle.vocabulary.specs.declared.refusal.Refusal.the-variants.{NoEnd}
 use Rattle.vocabulary.specs.Refusals.{numberOf, accepted}
+use Rattle.vocabulary.proofs.RefusalLaws.{none-refused, some-refused}
 use Rattle.sheets.specs.Buffer.{bufferLength, printAnswer, printInto}
 use Rattle.sheets.specs.declared.Printed.{Printed}
 use Rattle.sheets.proofs.Printing.{room-enough}
@@ -57,21 +57,13 @@ as-turned {out} {out′} {r = r} e t = subst (λ (x : Turn). Turned out x r out�
 pub as-turn : {out out′ : List ℕ} {before : Desk} {turn turn′ : Turn} {r : Told} → turn ≡ turn′ → Tells out before turn r out′ → Tells out before turn′ r out′
 as-turn {out} {out′} {before} {r = r} e t = subst (λ (x : Turn). Tells out before x r out′) e t
 
--- what a refusal's number says of it
-module _ (n : ℕ) (refusal : Refusal) (e : n ≡ numberOf refusal) where
-  pub none-refused : n ≡ 0 → accepted refusal ≡ true
-  none-refused z = rw (← e) (eq-eqb n 0 z)
-
-  pub some-refused : (n ≡ 0 → ⊥) → accepted refusal ≡ false
-  some-refused z = rw (← e) (ne-eqb n 0 z)
-
 -- a call's refusal is the line's, or there is none
 module _ (desk : Desk) (number : ℕ) (turn : Turn) {n : ℕ} {refusal refusal′ : Refusal} (e : n ≡ numberOf refusal) (same : refusal ≡ refusal′) where
   pub refuses : (n ≡ 0 → ⊥) → refusedTurn desk number refusal ≡ unless desk number refusal′ turn
-  refuses z = rw (← same, some-refused n refusal e z)
+  refuses z = rw (some-refused e same z, same)
 
   pub goes-on : n ≡ 0 → turn ≡ unless desk number refusal′ turn
-  goes-on z = rw (← same, none-refused n refusal e z)
+  goes-on z = rw (none-refused e same z)
 
 -- ---- the turn at the desk's stage
 

@@ -2,7 +2,7 @@
 use mathlib.Core.Path.{refl, sym, _∙_}
 use native.Mathlib.Omega.{arith}
 use Rattle.arithmetic.proofs.Signed.{back32}
-use Rattle.judging.proofs.RefusalLaws.{none-refused, some-refused}
+use Rattle.vocabulary.proofs.RefusalLaws.{none-refused, some-refused}
 use borrow.Author.Needs.{needs}
 use Rattle.checking.proofs.checker.stage_after.Statement.{statement}
 use Rattle.checking.proofs.checker.stage_after.Tie as tie

@@ -2,7 +2,7 @@
 use Prim.Native.Nat.{_+_, _*_}
 use mathlib.Core.Path.{refl, ap, _∙_}
 use Rattle.judging.specs.Kept.{Kept, withRow, withSheets}
-use Rattle.judging.proofs.RefusalLaws.{none-refused, some-refused}
+use Rattle.vocabulary.proofs.RefusalLaws.{none-refused, some-refused}
 use borrow.Author.Needs.{needs}
 use Rattle.judging.proofs.kept.keep.Statement.{statement}
 use Rattle.judging.proofs.kept.keep.Tie as tie

@@ -1,6 +1,6 @@
 -- `checking::checker::Checker::answered` meets its contract. Assumes nothing.
 use mathlib.Core.Path.{refl}
-use Rattle.judging.proofs.RefusalLaws.{none-refused, some-refused}
+use Rattle.vocabulary.proofs.RefusalLaws.{none-refused, some-refused}
 use borrow.Author.Needs.{needs}
 use Rattle.checking.proofs.checker.Checker.answered.Statement.{statement}
 use Rattle.checking.proofs.checker.Checker.answered.Tie as tie

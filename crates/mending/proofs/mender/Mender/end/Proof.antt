@@ -1,5 +1,6 @@
 -- `mending::mender::Mender::end` meets its contract. Assumes nothing.
-use Rattle.mending.proofs.TurnLaws.{as-turn, printed, none-refused, refuses, goes-on}
+use Rattle.vocabulary.proofs.RefusalLaws.{none-refused}
+use Rattle.mending.proofs.TurnLaws.{as-turn, printed, refuses, goes-on}
 use Rattle.mending.proofs.MenderLaws.{end-short}
 use Rattle.mending.specs.Mender.{endTurn}
 use native.Mathlib.Omega.{arith}

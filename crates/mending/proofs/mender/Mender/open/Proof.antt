@@ -1,5 +1,6 @@
 -- `mending::mender::Mender::open` meets its contract. Assumes nothing.
-use Rattle.mending.proofs.TurnLaws.{as-turn, silent, none-refused, refuses, goes-on}
+use Rattle.vocabulary.proofs.RefusalLaws.{none-refused}
+use Rattle.mending.proofs.TurnLaws.{as-turn, silent, refuses, goes-on}
 use Rattle.mending.specs.Mender.{openedBy, openTurn}
 use Rattle.settlement.proofs.HeaderLaws.{opened-quarters}
 use Rattle.vocabulary.proofs.Answers.{accepted-none}

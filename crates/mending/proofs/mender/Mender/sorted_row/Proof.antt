@@ -1,5 +1,6 @@
 -- `mending::mender::Mender::sorted_row` meets its contract. Assumes nothing.
-use Rattle.mending.proofs.TurnLaws.{as-turn, printed, none-refused, refuses, goes-on, sorted-none}
+use Rattle.vocabulary.proofs.RefusalLaws.{none-refused}
+use Rattle.mending.proofs.TurnLaws.{as-turn, printed, refuses, goes-on, sorted-none}
 use Rattle.mending.specs.Mender.{sortedTurn}
 use native.Mathlib.Omega.{arith}
 use borrow.Author.Needs.{needs}

@@ -1,10 +1,11 @@
 -- `text::desk::Desk::quarter` meets its contract. Assumes nothing.
-use Rattle.text.proofs.Telling.{turned, silent, as-turned, waits, some-refused, none-refused}
+use Rattle.vocabulary.proofs.RefusalLaws.{none-refused, some-refused}
+use Rattle.text.proofs.Telling.{turned, silent, as-turned, waits}
 use Rattle.text.specs.Desk.{quarterTurn}
 use Rattle.settlement.specs.Many.{roomOf}
 use native.Mathlib.Omega.{arith}
 use Prim.Native.Nat.{_<_}
-use mathlib.Core.Path.{sym}
+use mathlib.Core.Path.{refl, sym}
 use borrow.Author.Needs.{needs}
 use Rattle.text.proofs.desk.Desk.quarter.Statement.{statement}
 use Rattle.text.proofs.desk.Desk.quarter.Tie as tie
@@ -31,7 +32,10 @@ told-requires-2 c κs = search needs
 
 returns-2 : tie.Need-returns-2
 unfolding quarterTurn
-returns-2 c = rw (← c .before .before .before .take .ensures, some-refused _ _ (c .before .before .number .ensures) (c .before .if2 .taken), c .told2 .ensures) (silent _ _)
+returns-2 c =
+    let at-take = c .before .before .before in
+    rw (← at-take .take .ensures, some-refused {refusal = at-take .take .result .refusal} (c .before .before .number .ensures) refl (c .before .if2 .taken), c .told2 .ensures)
+    (silent _ _)
 
 print-taken-requires : tie.Need-print-taken-requires
 print-taken-requires c κs = search needs
@@ -47,7 +51,8 @@ unfolding quarterTurn
 returns-3 c =
     let p = c .before .before .before .print-taken .ensures in
     let at-if2 = c .before .before .before .before .before in
-    rw (← at-if2 .before .before .take .ensures, none-refused _ _ (at-if2 .before .number .ensures) (at-if2 .if2 .left))
+    let at-take = at-if2 .before .before in
+    rw (← at-take .take .ensures, none-refused {refusal = at-take .take .result .refusal} (at-if2 .before .number .ensures) refl (at-if2 .if2 .left))
     (turned (c .told3 .ensures) (p .0) (p .1 .0) (omega (arith, p .1 .1)))
 
 pub quarter-spec : {M : Type 1} → statement M
