@@ -7,8 +7,8 @@
 //! and what it prints is thrown away. For each FILE one line goes to standard
 //! output, with a number for each COMMAND, parted by tabs: the nanoseconds from
 //! the start of the process to its end in the best of ROUNDS, in each of which
-//! all run, so that a slow moment of the machine meets all; or the most memory
-//! that it had at a time, in KiB.
+//! all run on all files, so that a slow moment of the machine meets all; or the
+//! most memory that it had at a time, in KiB.
 
 use std::env;
 use std::error::Error;
@@ -47,18 +47,18 @@ fn main() -> ExitCode {
 }
 
 fn times(rounds: u32, commands: &[String], files: &[String]) -> Result<(), Box<dyn Error>> {
-    for file in files {
-        let mut best = vec![u128::MAX; commands.len()];
-        for _ in 0..rounds {
-            for (command, best) in commands.iter().zip(&mut best) {
+    let mut best = vec![vec![u128::MAX; commands.len()]; files.len()];
+    for _ in 0..rounds {
+        for (file, best) in files.iter().zip(&mut best) {
+            for (command, best) in commands.iter().zip(best) {
                 let mut process = process(command, file)?;
                 let start = Instant::now();
                 wait(&mut process)?;
                 *best = (*best).min(start.elapsed().as_nanos());
             }
         }
-        print(&best);
     }
+    best.iter().for_each(|best| print(best));
     Ok(())
 }
 
