@@ -12,7 +12,7 @@ BLOCK = 1 << 16
 # Header, carry block and contracts stand within this many first bytes of any input that is not refused among them.
 HEAD = 1 << 16
 # The last bytes that are kept. The line that ends a run is among them: the program has read at most one of its blocks
-# (256 KiB) past it, 64 KiB may wait in the pipe, and one block more was read here.
+# (64 KiB) past it, 64 KiB may wait in the pipe, and one block more was read here.
 WINDOW = 1 << 20
 # The end line of a file that the program read itself is among so many bytes before the place that it came to, which is
 # at most one of its blocks past that line.

@@ -5,12 +5,13 @@ use mathlib.Core.Bool.{Bool, true, false, cond}
 use mathlib.Core.List.{List, [], _∷_}
 use native.Mathlib.Omega.{arith}
 use native.Mathlib.Nat.{add-zero}
-use borrow.Author.Tests.{le-ltb, lt-ltb, le-leb}
-use lib.Dec.{leb}
+use borrow.Author.Tests.{le-ltb, lt-ltb, le-leb, ltb-true, ltb-false}
+use lib.Dec.{leb, ltb}
 use lib.ListN.{length, take, drop, length-drop, length-append, drop-of-length-le}
 use lib.Seq.{drop-drop, sets, length-sets}
 use lib.IntN.{ℤ}
 use Rattle.arithmetic.specs.Whole.{leastOf}
+use Rattle.arithmetic.proofs.Booleans.{true-false}
 use Rattle.vocabulary.specs.declared.sample.Sample.{Sample}
 use Rattle.fields.proofs.DigitLaws.{to-end}
 use Rattle.lines.specs.Feed as lines
@@ -37,7 +38,7 @@ use Rattle.text.specs.declared.desk.Stage.the-variants.{Open}
 use Rattle.text.specs.declared.desk.Desk.{Desk}
 use Rattle.text.specs.declared.desk.Told.{Told}
 use Rattle.feed.specs.Reader.{closedOf, feedOf, finishOf, readerOf, over, Yields, lengthOf}
-use Rattle.feed.specs.Steps.{Finds, Stretches, lineFound, afterOf, turnBy, leftBy, Moves, Reads, fedBy, endedBy}
+use Rattle.feed.specs.Steps.{Finds, Stretches, lineFound, afterOf, turnBy, leftBy, Moves, goesOn, Reads, fedBy, endedBy}
 use Rattle.feed.specs.declared.Reader.{Reader}
 use Rattle.feed.specs.declared.Found.{Found}
 use Rattle.feed.specs.declared.Moved.{Moved}
@@ -430,6 +431,77 @@ module _ (start : Reader) {block out : List ℕ} {reader : Reader} {i : ℕ} {r 
       on-text (x ∷ xs) e =
           by-outcome (x ∷ xs) (by-text (x ∷ xs) e) (m .printed ∙ ap length e)
           (m .bytes ∙ ap (λ (l : List ℕ). over l out) e) (subst (λ (l : List ℕ). length l ≤ bufferLength) e (m .room))
+
+-- ---- HOW FAR A CALL HAS COME: it goes on, and nothing was printed yet; or what it answers is known
+
+-- a call that goes on has printed nothing, its desk is open, and the block has not ended
+to-go-on : (some closed more : Bool) → cond some false (cond closed false more) ≡ true → (some ≡ false) × (closed ≡ false) × (more ≡ true)
+to-go-on true closed more e = true-false e refl
+to-go-on false true more e = true-false e refl
+to-go-on false false more e = (refl, refl, e)
+
+-- one that does not has printed something, or its desk is closed, or the block has ended
+data Stops (some closed more : Bool) : Type 0 where
+  printed : some ≡ true → Stops some closed more
+  shut : some ≡ false → closed ≡ true → Stops some closed more
+  ended : some ≡ false → more ≡ false → Stops some closed more
+
+to-stop : (some closed more : Bool) → cond some false (cond closed false more) ≡ false → Stops some closed more
+to-stop true closed more e = printed refl
+to-stop false true more e = shut refl refl
+to-stop false false more e = ended refl e
+
+pub record Going (start : Reader) (block out₀ : List ℕ) (reader : Reader) (i : ℕ) (out : List ℕ) : Type 0 where
+  pub so : So start block reader i
+  pub same : out ≡ out₀
+  pub opened : closedOf (reader .desk) ≡ false
+  pub here : i < length block
+
+-- what was read up to place i, and printed
+abbrev upTo : Reader → ℕ → ℕ → Moved
+upTo reader i n = record { gatherer = reader .gatherer; desk = reader .desk; used = i; printed = n }
+
+pub record Come (start : Reader) (block out₀ : List ℕ) (reader : Reader) (i n : ℕ) (out : List ℕ) (on : Bool) : Type 0 where
+  pub long : length out ≡ length out₀
+  pub going : on ≡ true → Going start block out₀ reader i out
+  pub done : on ≡ false → Reads start block out₀ (upTo reader i n) out
+
+module _ (start : Reader) (block out₀ : List ℕ) (reader : Reader) (i n : ℕ) {out : List ℕ} {on closed : Bool} (told : on ≡ goesOn n closed i (length block))
+    (told-closed : closed ≡ closedOf (reader .desk)) (long : length out ≡ length out₀) (quiet : n ≡ 0 → So start block reader i × (out ≡ out₀))
+    (loud : 0 < n → Reads start block out₀ (upTo reader i n) out) where
+  none-printed : ltb 0 n ≡ false → n ≡ 0
+  none-printed e = let h : n ≤ 0 = ltb-false 0 n e in omega arith
+
+  silent : ltb 0 n ≡ false → Reads start block out₀ (upTo reader i 0) out → Reads start block out₀ (upTo reader i n) out
+  silent e r = subst (λ (k : ℕ). Reads start block out₀ (upTo reader i k) out) (sym (none-printed e)) r
+
+  by-stop : Stops (ltb 0 n) closed (ltb i (length block)) → Reads start block out₀ (upTo reader i n) out
+  by-stop (printed e) = loud (ltb-true 0 n e)
+  by-stop (shut e c) = let q = quiet (none-printed e) in silent e (so-closed start block out₀ reader i (q .1) (q .0) (sym told-closed ∙ c))
+  by-stop (ended e l) = let q = quiet (none-printed e) in silent e (so-ended start block out₀ reader i (q .1) (q .0) (ltb-false i (length block) l))
+
+  pub come : Come start block out₀ reader i n out on
+  come =
+      record {
+        long = long;
+        going = λ e.
+            (let g = to-go-on (ltb 0 n) closed (ltb i (length block)) (sym told ∙ e) in
+            let q = quiet (none-printed (g .0)) in
+            record { so = q .0; same = q .1; opened = sym told-closed ∙ g .1; here = ltb-true i (length block) (g .2) });
+        done = λ e. by-stop (to-stop (ltb 0 n) closed (ltb i (length block)) (sym told ∙ e));
+      }
+
+-- before the first step
+pub come-first : (start : Reader) (block out : List ℕ) {on closed : Bool} → on ≡ goesOn 0 closed 0 (length block) → closed ≡ closedOf (start .desk) → Come start block out start 0 0 out on
+come-first start block out e c = come start block out start 0 0 e c refl (λ z. (so-first start block, refl)) (λ h. absurd (omega arith))
+
+-- and after one more
+pub come-on : (start : Reader) {block out₀ : List ℕ} {reader : Reader} {i : ℕ} {r : Moved} {out out′ : List ℕ} {on closed : Bool} → bufferLength ≤ length out
+    → Going start block out₀ reader i out → Moves reader block i out r out′ → on ≡ goesOn (r .printed) closed (i + r .used) (length block) → closed ≡ closedOf (r .desk)
+    → Come start block out₀ (leftBy r) (i + r .used) (r .printed) out′ on
+come-on start {block} {out₀} {reader} {i} {r} {out} {out′} enough g m e c =
+    let m₀ = other-out (g .same) m in
+    come start block out₀ (leftBy r) (i + r .used) (r .printed) e c (moves-length enough m ∙ ap length (g .same)) (so-on start (g .so) m₀) (so-told start (g .so) m₀)
 
 -- ---- A CALL
 

@@ -1,7 +1,7 @@
 -- The parts of a call, as the code has them: what stands next in a block, and what the desk makes of it.
 use Prim.Native.Nat.{ℕ, _+_, _≤_, _<_}
 use mathlib.Core.Path.{_≡_}
-use mathlib.Core.Bool.{false, cond}
+use mathlib.Core.Bool.{Bool, false, cond}
 use mathlib.Core.List.{List}
 use lib.ListN.{length, drop}
 use lib.Dec.{ltb}
@@ -74,6 +74,10 @@ pub record Moves (reader : Reader) (block : List ℕ) (at : ℕ) (out : List ℕ
   pub some : 0 < r .used
   pub within : at + r .used ≤ length block
   pub is : feedOf reader (drop at block) ≡ onTurn (r .gatherer) (record { desk = r .desk; text = text }) (r .used) (feedOf (leftBy r) (drop (at + r .used) block))
+
+-- whether a call goes on after a step
+abbrev pub goesOn : ℕ → Bool → ℕ → ℕ → Bool
+goesOn printed closed at end = cond (ltb 0 printed) false (cond closed false (ltb at end))
 
 -- all of them
 pub record Reads (reader : Reader) (block out : List ℕ) (r : Moved) (out′ : List ℕ) : Type 0 where

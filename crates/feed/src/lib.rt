@@ -15,7 +15,7 @@ ghost use Rattle.records.specs.Tape.{samplesIn};
 ghost use Rattle.sheets.specs.Buffer.{bufferLength};
 ghost use Rattle.text.specs.Desk.{Tells, lineTurn, closedAt};
 ghost use Rattle.feed.specs.Reader.{emptyReader, lengthOf, feedOf, finishOf, Yields};
-ghost use Rattle.feed.specs.Steps.{readerWith, lineFound, Finds, turnBy, afterOf, Reads, fedBy, endedBy};
+ghost use Rattle.feed.specs.Steps.{readerWith, lineFound, Finds, turnBy, afterOf, goesOn, Reads, fedBy, endedBy};
 
 // No quarter hour has more samples.
 const MOST: usize = 900;
@@ -151,8 +151,21 @@ fn after(found: Found) -> Gatherer
     gatherer
 }
 
-// On until something is printed, the desk is closed, or the block ends. Gatherer and desk go by themselves, and not as a reader, which would have to be
-// taken apart and put together for each step.
+// Whether a call goes on: nothing is printed yet, the desk is open, and the block has not ended.
+fn goes_on(printed: usize, closed: bool, at: usize, end: usize) -> bool
+    ensures { λ r. ⌜ r ≡ goesOn printed closed at end ⌝ }
+{
+    if 0 < printed {
+        return false;
+    }
+    if closed {
+        return false;
+    }
+    at < end
+}
+
+// On until something is printed, the desk is closed, or the block ends. The desk stays in what was told last, and there is one way out: else it would be
+// copied once more for each step.
 fn read_on(
     first: Gatherer,
     opened: Desk,
@@ -165,38 +178,28 @@ fn read_on(
     ensures { λ r. ⌜ Reads (readerWith first opened) (now (block .entry)) (now (out .entry)) r (now (out .exit)) ⌝ }
 {
     let mut gatherer = first;
-    let mut desk = opened;
+    let mut told = Told {
+        desk: opened,
+        printed: Printed::Length(0),
+    };
     let mut i = 0;
-    while i < block.len() {
-        if desk.is_closed() {
-            return Moved {
-                gatherer,
-                desk,
-                used: i,
-                printed: 0,
-            };
-        }
-        let found = next(gatherer, block, i, setpoints, actuals, desk.room());
-        let answer = told_of(desk, found, setpoints, actuals, out);
-        let printed = answer.printed;
-        let n = length_of(printed);
+    let mut n = 0;
+    let mut on = goes_on(0, told.desk.is_closed(), 0, block.len());
+    while on {
+        let found = next(gatherer, block, i, setpoints, actuals, told.desk.room());
+        told = told_of(told.desk, found, setpoints, actuals, out);
+        let printed = told.printed;
+        n = length_of(printed);
         gatherer = after(found);
-        desk = answer.desk;
         i += found.used;
-        if 0 < n {
-            return Moved {
-                gatherer,
-                desk,
-                used: i,
-                printed: n,
-            };
-        }
+        on = goes_on(n, told.desk.is_closed(), i, block.len());
     }
+    let desk = told.desk;
     Moved {
         gatherer,
         desk,
         used: i,
-        printed: 0,
+        printed: n,
     }
 }
 

@@ -4,28 +4,30 @@ use feed::Reader;
 use libc::STDERR_FILENO;
 use libc::STDIN_FILENO;
 use libc::STDOUT_FILENO;
+use samples::complete;
 use sheets::BUFFER;
 use sheets::Printed;
 ghost use mathlib.Core.Path.{_≡_};
 ghost use mathlib.Core.Bool.{true};
-ghost use Prim.Native.Nat.{_≤_};
-ghost use lib.ListN.{length};
+ghost use Prim.Native.Nat.{_+_, _-_, _≤_, _<_};
+ghost use lib.ListN.{length, take, drop};
 ghost use Rattle.sheets.specs.Buffer.{bufferLength};
 ghost use Rattle.feed.specs.Reader.{lengthOf};
 ghost use Rattle.feed.specs.Feeding.{Through};
 
-// So much is read at once: a line that a block ends within costs about as much as a hundred others.
-const BLOCK: usize = 262144;
+// So much is read at once: each page of it costs as much as some fifty samples, and each reading as much as some hundred.
+const BLOCK: usize = 65536;
 
-// The reader after some input, and whether all that it printed could be written out.
+// The reader after some input, whether all that it printed could be written out, and how many bytes are left, which were read and not fed.
 struct Passed {
     reader: Reader,
     wrote: bool,
+    left: usize,
 }
 
 // The block that is read into.
 fn no_block() -> [u8; BLOCK]
-    ensures { λ r. ⌜ 262144 ≡ length r ⌝ }
+    ensures { λ r. ⌜ 65536 ≡ length r ⌝ }
 {
     [0u8; BLOCK]
 }
@@ -63,6 +65,7 @@ fn fed(reader: Reader, block: &[u8], out: &mut [u8]) -> Passed
             return Passed {
                 reader: now,
                 wrote: true,
+                left: 0,
             };
         }
         let part = now.feed(&block[i..], out);
@@ -73,30 +76,76 @@ fn fed(reader: Reader, block: &[u8], out: &mut [u8]) -> Passed
             return Passed {
                 reader: now,
                 wrote: false,
+                left: 0,
             };
         }
     }
     Passed {
         reader: now,
         wrote: true,
+        left: 0,
     }
 }
 
-// Reads once, and settles what came, or the input's end.
-fn turn(reader: Reader, block: &mut [u8], out: &mut [u8]) -> Passed
+// How much of what is at hand is fed: its whole lines, since a line that a call ends within costs about as much as a hundred others. All of it is, where no line
+// ends there or the input has ended.
+fn fed_length(block: &[u8], ended: bool) -> usize
+    ensures { λ r. ⌜ (r ≤ length (now (block .entry))) × (0 < length (now (block .entry)) → 0 < r) ⌝ }
+{
+    let lines = complete(block);
+    if ended {
+        return block.len();
+    }
+    if lines == 0 {
+        return block.len();
+    }
+    lines
+}
+
+// The bytes of a block that are not fed yet go to its front, so that what is read next follows them; so many they are.
+fn left_over(block: &mut [u8], from: usize, to: usize) -> usize
+    requires { ⌜ (from ≤ to) × (to ≤ length (now block)) ⌝ }
+    ensures { λ r. ⌜ (r ≡ to - from) × (take r (now (block .exit)) ≡ take r (drop from (now (block .entry)))) ⌝ }
+{
+    let mut k = 0;
+    while k < to - from {
+        let byte = block[from + k];
+        block[k] = byte;
+        k += 1;
+    }
+    k
+}
+
+// What is at hand, the first `all` bytes of a block: its whole lines are fed, and the rest is kept.
+fn turn(reader: Reader, block: &mut [u8], all: usize, ended: bool, out: &mut [u8]) -> Passed
+    requires { ⌜ all ≤ length (now block) ⌝ }
+    requires { ⌜ bufferLength ≤ length (now out) ⌝ }
+    ensures fed { λ r. ⌜ (r .wrote ≡ true → Through reader (take (all - r .left) (now (block .entry))) (r .reader)) ⌝ }
+    ensures kept { λ r. ⌜ take (r .left) (now (block .exit)) ≡ take (r .left) (drop (all - r .left) (now (block .entry))) ⌝ }
+    ensures fewer { λ r. ⌜ (r .left ≤ all) × (0 < all → r .left < all) ⌝ }
+{
+    let end = fed_length(&block[..all], ended);
+    let mut passed = fed(reader, &block[..end], out);
+    passed.left = left_over(block, end, all);
+    passed
+}
+
+// Reads once, behind the bytes that are left; answers how many came, none where the input has ended.
+fn read_on(block: &mut [u8], left: usize) -> usize
+    requires { ⌜ left ≤ length (now block) ⌝ }
+    ensures { λ r. ⌜ left + r ≤ length (now (block .entry)) ⌝ }
+{
+    let free = &mut block[left..];
+    io::count(libc::read(STDIN_FILENO, free), free)
+}
+
+// The input has ended.
+fn close(reader: Reader, out: &mut [u8])
     requires { ⌜ bufferLength ≤ length (now out) ⌝ }
 {
-    let n = io::count(libc::read(STDIN_FILENO, block), block);
-    if n != 0 {
-        return fed(reader, &block[..n], out);
-    }
     let ended = reader.finish(out);
-    let last = ended.reader;
     let printed = ended.printed;
-    Passed {
-        reader: last,
-        wrote: written(printed, out),
-    }
+    written(printed, out);
 }
 
 // A proved loop has to end, and nothing says that an input does: it counts down from a number that no input uses up.
@@ -104,16 +153,22 @@ fn main() {
     let mut reader = Reader::new();
     let mut block = no_block();
     let mut out = blank();
+    let mut left = 0;
     let mut turns = u64::MAX;
     while turns > 0 {
-        if reader.is_closed() {
-            return;
-        }
-        let passed = turn(reader, &mut block, &mut out);
+        let n = read_on(&mut block, left);
+        let passed = turn(reader, &mut block, left + n, n == 0, &mut out);
         if !passed.wrote {
             return;
         }
         reader = passed.reader;
+        left = passed.left;
+        if reader.is_closed() {
+            return;
+        }
+        if n == 0 {
+            return close(reader, &mut out);
+        }
         turns -= 1;
     }
 }
