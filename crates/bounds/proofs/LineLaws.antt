@@ -9,6 +9,8 @@ use native.Mathlib.Nat.{add-zero, eq-or-lt-of-le}
 use native.Mathlib.Numerals.{add-one}
 use lib.IntN.{ℤ, pos}
 use lib.ListN.{length, getD, set}
+use mir.Syntax.{w32}
+use mir.Val.{SFits}
 use Rattle.series.proofs.Filling.{Tabled, tabled-none, tabled-more, tabled-all}
 use Rattle.vocabulary.specs.declared.interval.Interval.{Interval}
 use Rattle.vocabulary.specs.Interval.{windowsOf}
@@ -18,10 +20,12 @@ use Rattle.bounds.specs.declared.bound.Seen.{Seen}
 use Rattle.vocabulary.specs.declared.acceptance.Bounds.{Bounds}
 use Rattle.bounds.specs.Windows.{over}
 use Rattle.bounds.specs.Side.{fartherOf, seenBy, nextOf}
+use Rattle.bounds.specs.Movable.{movableOf}
 use Rattle.bounds.specs.Widening.{backAt, endingAt, Reaching}
 use Rattle.bounds.specs.Line.{heldAfter, heldAt, boundsAfter, Leads, Windowed, Flat, NearWindows, SpreadWindows, Shown}
 use Rattle.bounds.proofs.Scan.{within}
 use Rattle.bounds.proofs.Sides.{farther-ind, next-seen}
+use Rattle.bounds.proofs.Moving.{brought-out-next}
 use Rattle.bounds.proofs.WindowLaws.{earlier}
 
 -- ---- the windows: those of to - from + 1 setpoints that end `from` places before a setpoint
@@ -103,29 +107,55 @@ module _ (i : Interval) (lot : ℕ) (line : List ℤ) (n : ℕ) (highest lowest 
 -- ---- the loop over the setpoints
 
 module _ (i : Interval) (lot : ℕ) (line : List ℤ) (start : Bounds) (ogas₀ ugas₀ : List ℤ) where
+  -- the bounds that it holds after k setpoints: before the first of them those that can be moved
+  abbrev pub standing : ℕ → Bounds
+  standing zero = movableOf start
+  standing (suc k) = boundsAfter i lot line start (suc k)
+
+  -- they go on as those do that are held
+  standing-on : (k : ℕ) (seen : Seen) → SFits w32 (seen .highest) → SFits w32 (seen .lowest)
+      → nextOf i lot seen (standing k) ≡ nextOf i lot seen (boundsAfter i lot line start k)
+  unfolding heldAfter
+  standing-on zero seen high low = brought-out-next i lot seen start high low
+  standing-on (suc k) seen high low = refl
+
+  standing-last : (k : ℕ) → 0 < k → standing k ≡ boundsAfter i lot line start k
+  standing-last zero h = absurd (omega arith)
+  standing-last (suc k) h = refl
+
   -- where it stands after k setpoints
   pub record Midway (last : Bounds) (ogas ugas : List ℤ) (k : ℕ) : Type 0 where
-    pub now : last ≡ boundsAfter i lot line start k
+    pub now : last ≡ standing k
     pub over : Tabled (heldAt Upper i lot line (start .oga .0)) ogas₀ ogas k
     pub under : Tabled (heldAt Lower i lot line (start .uga .0)) ugas₀ ugas k
 
-  pub midway-none : Midway start ogas₀ ugas₀ 0
-  unfolding heldAfter
+  pub midway-none : Midway (movableOf start) ogas₀ ugas₀ 0
   midway-none = record { now = refl; over = tabled-none _ ogas₀; under = tabled-none _ ugas₀ }
 
   module _ (n : ℕ) (highest lowest most least : List ℤ) (s : Shown i line n highest lowest most least) (above : n ≤ length ogas₀) (below : n ≤ length ugas₀) where
-    pub midway-more : (last next : Bounds) (ogas ugas : List ℤ) (k : ℕ) → k < n → next ≡ nextOf i lot (seenAt i lot line n highest lowest most least k) last
-        → Midway last ogas ugas k → Midway next (set ogas k (next .oga .0)) (set ugas k (next .uga .0)) (k + 1)
+    abbrev pub seenHere : ℕ → Seen
+    seenHere = seenAt i lot line n highest lowest most least
+
+    pub midway-more : (last next : Bounds) (ogas ugas : List ℤ) (k : ℕ) → k < n → SFits w32 (seenHere k .highest) → SFits w32 (seenHere k .lowest)
+        → next ≡ nextOf i lot (seenHere k) last → Midway last ogas ugas k → Midway next (set ogas k (next .oga .0)) (set ugas k (next .uga .0)) (k + 1)
     unfolding heldAfter
-    midway-more last next ogas ugas k h e m =
+    midway-more last next ogas ugas k h high low e m =
+        let before = boundsAfter i lot line start k in
         let shown = seen-at i lot line n highest lowest most least s k h in
-        let v : next ≡ boundsAfter i lot line start (suc k) = rw shown at e ∙ next-seen i lot (backAt line (302 + k)) last ∙ rw (m .now) in
+        let from-before : next ≡ nextOf i lot (seenHere k) before = e ∙ ap (nextOf i lot (seenHere k)) (m .now) ∙ standing-on k (seenHere k) high low in
+        let v : next ≡ boundsAfter i lot line start (suc k) = rw shown at from-before ∙ next-seen i lot (backAt line (302 + k)) before in
         record {
           now = rw (add-one) v;
           over = tabled-more _ ogas₀ ogas k (next .oga .0) (omega arith) (ap (λ (b : Bounds). b .oga .0) v) (m .over);
           under = tabled-more _ ugas₀ ugas k (next .uga .0) (omega arith) (ap (λ (b : Bounds). b .uga .0) v) (m .under);
         }
 
-  pub midway-all : (last : Bounds) (ogas ugas : List ℤ) (k : ℕ) → Midway last ogas ugas k → Leads i lot start line k ogas₀ ugas₀ ogas ugas last
-  midway-all last ogas ugas k m =
-      record { last = m .now; above = tabled-all _ ogas₀ ogas k (m .over); below = tabled-all _ ugas₀ ugas k (m .under) }
+  -- none at all: what is held stays
+  pub leads-none : Leads i lot start line 0 ogas₀ ugas₀ ogas₀ ugas₀ start
+  unfolding heldAfter
+  leads-none =
+      record { last = refl; above = tabled-all _ ogas₀ ogas₀ 0 (tabled-none _ ogas₀); below = tabled-all _ ugas₀ ugas₀ 0 (tabled-none _ ugas₀) }
+
+  pub midway-all : (last : Bounds) (ogas ugas : List ℤ) (k : ℕ) → 0 < k → Midway last ogas ugas k → Leads i lot start line k ogas₀ ugas₀ ogas ugas last
+  midway-all last ogas ugas k some m =
+      record { last = m .now ∙ standing-last k some; above = tabled-all _ ogas₀ ogas k (m .over); below = tabled-all _ ugas₀ ugas k (m .under) }

@@ -1,4 +1,5 @@
 pub mod Windows
 pub mod Side
+pub mod Movable
 pub mod Widening
 pub mod Line

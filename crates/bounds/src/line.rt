@@ -1,6 +1,7 @@
 // The bounds along a line of up to 1,202 setpoints, oldest first: the windows at all of them by a few passes, then the bounds one by one.
 use crate::bound::Seen;
-use crate::bound::next_bounds;
+use crate::bound::movable;
+use crate::bound::next_movable;
 use crate::side::Side;
 use crate::widening::grown;
 use arithmetic::whole::least;
@@ -49,7 +50,8 @@ fn show(
     );
 }
 
-// OGA and UGA at each of n setpoints, by the windows there, into two series that are lent; and after the last.
+// OGA and UGA at each of n setpoints, by the windows there, into two series that are lent; and after the last. Each waits for the one
+// before it, so what is held is made movable once, before the first.
 fn bounded(
     interval: Interval,
     lot: u32,
@@ -67,9 +69,12 @@ fn bounded(
     ensures { λ r. ⌜ ((line : List ℤ) → Shown interval line n (now (highest .entry)) (now (lowest .entry)) (now (most .entry)) (now (least .entry))
         → Leads interval lot held line n (now (ogas .entry)) (now (ugas .entry)) (now (ogas .exit)) (now (ugas .exit)) r) ⌝ }
 {
+    if n == 0 {
+        return held;
+    }
     let windows = interval.windows();
     let from = windows.from;
-    let mut last = held;
+    let mut last = movable(held);
     let mut i = 0;
     while i < n {
         let seen = Seen {
@@ -78,7 +83,7 @@ fn bounded(
             most: most[302 + i - from],
             least: least[302 + i - from],
         };
-        last = next_bounds(interval, lot, seen, last);
+        last = next_movable(interval, lot, seen, last);
         let oga = last.oga;
         let uga = last.uga;
         let above = oga.0;

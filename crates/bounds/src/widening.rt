@@ -49,7 +49,22 @@ fn grow(side: Side, x: &mut [i32], y: &mut [i32], len: usize, from: usize, to: u
     }
 }
 
-// Windows of `from` setpoints made windows of `to` beside them: the first two passes go by way of what is lent aside.
+// Whether an odd number of passes makes windows of `to` setpoints from those of `from`. It only saves a pass: the windows are right
+// whatever it answers.
+fn odd_passes(from: usize, to: usize) -> bool
+    requires { ⌜ (0 < from) × (from ≤ to) ⌝ }
+{
+    let mut odd = false;
+    let mut m = from;
+    while m < to {
+        m += step(m, to);
+        odd = !odd;
+    }
+    odd
+}
+
+// Windows of `from` setpoints made windows of `to` beside them. `grow` makes two passes a turn: so the first goes straight into its
+// place if there is an odd number, or the last one would only copy; else the first two go by way of what is lent aside.
 pub(crate) fn grown(
     side: Side,
     a: &[i32],
@@ -63,8 +78,13 @@ pub(crate) fn grown(
     ensures { λ r. ⌜ ((line : List ℤ) → Reaching side line from len (now (a .entry)) → Reaching side line to len (now (x .exit))) ⌝ }
 {
     let d = step(from, to);
-    widen(side, a, y, len, from, d);
     let wider = from + d;
+    if odd_passes(from, to) {
+        widen(side, a, x, len, from, d);
+        grow(side, x, y, len, wider, to);
+        return;
+    }
+    widen(side, a, y, len, from, d);
     let e = step(wider, to);
     widen(side, y, x, len, wider, e);
     grow(side, x, y, len, wider + e, to);

@@ -74,7 +74,7 @@ returns c =
     rw (factors c, toZ-ofZ w64 (maxZ (pos (a .args .lot)) s *ℤ pos (20 * n)) (fit c)) (
       rw (c .before .windows .ensures),
       (
-        gradient-down (a .args .lot) n s (omega arith) (short c) w,
+        gradient-down (a .args .lot) n s,
         gradient-up (a .args .lot) n s (omega arith) (short c) w,
       ),
     )

@@ -1,41 +1,27 @@
--- `bounds::bound::next_bounds` meets its contract: one gradient, and one rule for both sides.
+-- `bounds::bound::next_bounds` meets its contract: bounds that are brought out to where they can be moved are followed by the same ones.
 -- Assumes nothing.
-use borrow.Author.Needs.{needs}
-use Rattle.bounds.specs.Side.{nextOf}
-use Rattle.arithmetic.proofs.Signed.{back, back32}
+use borrow.Author.Needs.{needs, sfits-of}
+use native.Mathlib.Omega.{arith}
+use mathlib.Core.Path.{_∙_}
+use mir.Syntax.{w32}
+use mir.Val.{SFits}
+use Rattle.bounds.proofs.Moving.{brought-out-movable, brought-out-next}
 use Rattle.bounds.proofs.bound.next_bounds.Statement.{statement}
 use Rattle.bounds.proofs.bound.next_bounds.Tie as tie
 
-climb-requires : tie.Need-climb-requires
-climb-requires c κs = search needs
+movable-requires : tie.Need-movable-requires
+movable-requires c κs = search needs
 
-onward-requires : tie.Need-onward-requires
-onward-requires c κs = search needs
-
-onward-requires-2 : tie.Need-onward-requires-2
-onward-requires-2 c κs = search needs
+next-movable-requires : tie.Need-next-movable-requires
+next-movable-requires c κs = rw (c .movable .ensures) (brought-out-movable (c .before .args .held))
 
 returns : tie.Need-returns
-unfolding nextOf
 returns c =
-    let at-onward = c .before .before .before in
-    let at-struct-told4 = at-onward .before in
-    let at-climb = at-struct-told4 .before .before .before .before in
-    let at-struct-told = at-climb .before .before in
-    let at-start = at-struct-told .before in
-    let a = at-start .args in
-    let seen = at-struct-told .struct-told .given in
-    let high = back32 {z = a .seen .highest} (seen .0 .1) in
-    let low = back32 {z = a .seen .lowest} (seen .1 .0 .1) in
-    let most = back32 {z = a .seen .most} (seen .1 .1 .0 .1) in
-    let least = back32 {z = a .seen .least} (seen .1 .1 .1 .0 .1) in
-    let oga = back {z = a .held .oga .0} (at-struct-told4 .struct-told4 .given .0 .1) in
-    let uga = back {z = a .held .uga .0} (c .before .struct-told6 .given .0 .1) in
-    let o = at-onward .onward in
-    let u = c .onward2 in
-    let g = at-climb .climb in
-    rw (back {z = o .result} (o .ok), back {z = u .result} (u .ok), o .ensures, u .ensures)
-    (rw (back {z = g .result} (g .ok), g .ensures .0, high, low, most, least, oga, uga))
+    let start = c .before .before in
+    let a = start .args in
+    let high : SFits w32 (a .seen .highest) = sfits-of (omega (arith, start .good)) in
+    let low : SFits w32 (a .seen .lowest) = sfits-of (omega (arith, start .good)) in
+    rw (c .before .movable .ensures) at (c .next-movable .ensures .0) ∙ brought-out-next (a .interval) (a .lot) (a .seen) (a .held) high low
 
 pub next-bounds-spec : {M : Type 1} → statement M
-next-bounds-spec = tie.close (tie.spec climb-requires onward-requires onward-requires-2 returns)
+next-bounds-spec = tie.close (tie.spec movable-requires next-movable-requires returns)
