@@ -2,20 +2,16 @@
 -- Assumes nothing.
 use Prim.Native.Nat.{ℕ, _+_, _≤_, _<_}
 use mathlib.Core.Path.{_≡_, refl, ap, _∙_}
-use mathlib.Core.Bool.{true, false, cond, and-eq-true-iff}
+use mathlib.Core.Bool.{true, false, cond}
 use mathlib.Core.List.{List, [], _∷_}
 use native.Mathlib.Numerals.{add-one}
-use native.Mathlib.Omega.{arith}
-use borrow.Author.Tests.{lt-leb}
 use lib.ListN.{length, getD, drop, drop-of-length-le}
 use lib.Seq.{drop-cons}
 use lib.IntN.{ℤ, pos}
 use Rattle.vocabulary.specs.declared.refusal.Refusal.{Refusal}
 use Rattle.vocabulary.specs.declared.refusal.Refusal.the-variants.{None}
 use Rattle.vocabulary.specs.Refusals.{accepted}
-use Rattle.vocabulary.specs.Sample.{powerInRange}
 use Rattle.records.specs.Tape.{longer, sampleRefusal, samplesIn, recordedOf}
-use Rattle.records.specs.Fitting.{allInRange, Fitting, lengthened}
 use Rattle.records.specs.declared.tape.Tape.{Tape}
 use Rattle.records.specs.declared.tape.Recorded.{Recorded}
 
@@ -59,35 +55,3 @@ module _ (size taken quarters : ℕ) (tape : Tape) (sp ac : List ℤ) (k : ℕ) 
 
     pub taken-here : accepted ground ≡ true → left ≡ recordedOf size taken quarters (longer tape setpoint actual) (samplesIn (drop (k + 1) sp) (drop (k + 1) ac))
     taken-here e = one-more ∙ rw (e)
-
--- THE SAME WITHOUT A TEST
-module _ (tape : Tape) (sp ac : List ℤ) (k : ℕ) where
-  abbrev stretched : Tape
-  stretched = lengthened tape (samplesIn (drop k sp) (drop k ac))
-
-  pub none-longer : length sp ≤ k → stretched ≡ tape
-  unfolding lengthened samplesIn
-  none-longer h = rw (drop-of-length-le sp h)
-
-  pub one-longer : k < length sp → k < length ac → stretched ≡ lengthened (longer tape (getD sp k (pos 0)) (getD ac k (pos 0))) (samplesIn (drop (k + 1) sp) (drop (k + 1) ac))
-  unfolding lengthened samplesIn
-  one-longer p q = rw (drop-cons sp k (pos 0) p, drop-cons ac k (pos 0) q, add-one k)
-
--- a sample that fits is not refused
-accepts : (size filled taken quarters : ℕ) (setpoint actual : ℤ) → filled < size → taken < quarters → powerInRange setpoint ≡ true → powerInRange actual ≡ true
-    → accepted (sampleRefusal size filled taken quarters setpoint actual) ≡ true
-unfolding sampleRefusal
-accepts size filled taken quarters setpoint actual h e s a = rw (lt-leb _ _ h, lt-leb _ _ e, s, a)
-
--- where all fit, none is refused
-pub all-taken : (size taken quarters : ℕ) (tape : Tape) (sp ac : List ℤ) → Fitting size (tape .filled) taken quarters sp ac
-    → record { tape = lengthened tape (samplesIn sp ac); refusal = None } ≡ recordedOf size taken quarters tape (samplesIn sp ac)
-unfolding recordedOf lengthened samplesIn longer allInRange
-all-taken size taken quarters tape [] ac f = refl
-all-taken size taken quarters tape (x ∷ sp) [] f = refl
-all-taken size taken quarters tape (x ∷ sp) (y ∷ ac) f =
-    let a = and-eq-true-iff (powerInRange x) (allInRange sp) .0 (f .asked) in
-    let b = and-eq-true-iff (powerInRange y) (allInRange ac) .0 (f .delivered) in
-    let rest : Fitting size (tape .filled + 1) taken quarters sp ac =
-    record { early = f .early; room = omega (arith, f .room); paired = omega (arith, f .paired); asked = a .1; delivered = b .1 } in
-    rw (accepts size (tape .filled) taken quarters x y (omega (arith, f .room)) (f .early) (a .0) (b .0)) (all-taken size taken quarters (longer tape x y) sp ac rest)

@@ -1,3 +1,2 @@
 pub mod Tape
-pub mod Fitting
 pub mod Account

@@ -4,12 +4,9 @@ use vocabulary::refusal::Refusal;
 use vocabulary::sample::Sample;
 use vocabulary::sample::in_range;
 ghost use mathlib.Core.Path.{_≡_};
-ghost use mathlib.Core.Bool.{true};
-ghost use Prim.Native.Nat.{_+_, _≤_, _<_};
-ghost use lib.ListN.{length};
+ghost use Prim.Native.Nat.{_≤_, _<_};
 ghost use Rattle.vocabulary.specs.Interval.{windowsOf};
 ghost use Rattle.records.specs.Tape.{longer, Admitted, samplesIn, oneRecorded, recordedOf};
-ghost use Rattle.records.specs.Fitting.{allInRange, Fitting, lengthened};
 
 // Only the first `filled` places count.
 pub struct Tape {
@@ -43,48 +40,6 @@ fn sample_refusal(samples: usize, filled: usize, taken: u8, quarters: u8, sample
     Refusal::None
 }
 
-// Whether each of some powers may be a sample's. All are looked at, so that the compiler takes several at once.
-fn all_in_range(powers: &[i32]) -> bool
-    ensures { λ r. ⌜ r ≡ allInRange (now (powers .entry)) ⌝ }
-{
-    let mut all = true;
-    let mut k = 0;
-    while k < powers.len() {
-        all = all & in_range(powers[k]);
-        k += 1;
-    }
-    all
-}
-
-// Whether a tape takes all of some samples: quarter hours are left, there is room, and the powers are in range.
-fn all_fit(
-    size: usize,
-    filled: usize,
-    taken: u8,
-    quarters: u8,
-    setpoints: &[i32],
-    actuals: &[i32],
-) -> bool
-    ensures { λ r. ⌜ (r ≡ true → Fitting size filled taken quarters (now (setpoints .entry)) (now (actuals .entry))) ⌝ }
-{
-    if quarters <= taken {
-        return false;
-    }
-    if size < filled {
-        return false;
-    }
-    if size - filled < setpoints.len() {
-        return false;
-    }
-    if actuals.len() != setpoints.len() {
-        return false;
-    }
-    if !all_in_range(setpoints) {
-        return false;
-    }
-    all_in_range(actuals)
-}
-
 impl Tape {
     // One sample more.
     fn with(mut self, sample: Sample) -> Tape
@@ -97,24 +52,6 @@ impl Tape {
         self.setpoints[at] = setpoint;
         self.actuals[at] = actual;
         self.filled = at + 1;
-        self
-    }
-
-    // Samples that all fit, without a test.
-    fn with_fitting(mut self, setpoints: &[i32], actuals: &[i32]) -> Tape
-        requires { ⌜ (length (now setpoints) ≡ length (now actuals)) × (self .filled + length (now setpoints) ≤ 900) ⌝ }
-        ensures { λ r. ⌜ r ≡ lengthened self (samplesIn (now (setpoints .entry)) (now (actuals .entry))) ⌝ }
-    {
-        let at = self.filled;
-        let mut k = 0;
-        while k < setpoints.len() {
-            let setpoint = setpoints[k];
-            let actual = actuals[k];
-            self.setpoints[at + k] = setpoint;
-            self.actuals[at + k] = actual;
-            k += 1;
-        }
-        self.filled = at + k;
         self
     }
 
@@ -195,13 +132,6 @@ impl Tape {
         ensures { λ r. ⌜ r ≡ recordedOf (windowsOf interval .samples) taken quarters self (samplesIn (now (setpoints .entry)) (now (actuals .entry))) ⌝ }
     {
         let windows = interval.windows();
-        let size = windows.samples;
-        if all_fit(size, self.filled, taken, quarters, setpoints, actuals) {
-            return Recorded {
-                tape: self.with_fitting(setpoints, actuals),
-                refusal: Refusal::None,
-            };
-        }
-        self.with_all(size, taken, quarters, setpoints, actuals)
+        self.with_all(windows.samples, taken, quarters, setpoints, actuals)
     }
 }

@@ -1,4 +1,6 @@
 // A run: one stretch of quarter hours with its contracts. It goes into each call by value and comes back, with the refusal.
+use crate::fitting::all_fit;
+use crate::fitting::put;
 use crate::grounds::before_samples;
 use crate::grounds::end_refusal;
 use crate::grounds::open_refusal;
@@ -31,9 +33,11 @@ use vocabulary::interval::Interval;
 use vocabulary::refusal::Refusal;
 use vocabulary::sample::Sample;
 ghost use mathlib.Core.Path.{_≡_};
-ghost use Prim.Native.Nat.{_<_};
+ghost use Prim.Native.Nat.{_-_, _≤_, _<_};
+ghost use lib.ListN.{length};
 ghost use Rattle.records.specs.Account.{noAccount};
 ghost use Rattle.records.specs.Tape.{noTape, samplesIn};
+ghost use Rattle.settlement.specs.Fitting.{lengthened};
 ghost use Rattle.settlement.specs.Many.{roomOf, manyOf};
 ghost use Rattle.settlement.specs.Run.{freshRun, noRun, runOf, openedOf, untouched, lacksSetpoints, withSetpoint, withBoundsOf};
 ghost use Rattle.settlement.specs.Run.{withSetpointOf, contractWrong, contractedOf, sampledOf, quarterIn, settledOf, takenOf, endedOf, headingOf};
@@ -429,8 +433,20 @@ impl Run {
         self.sample(Sample { setpoint, actual })
     }
 
-    // Samples, one after the other, until one is refused: what `sample` makes of each, without handing the run on for each.
-    pub fn samples(mut self, setpoints: &[i32], actuals: &[i32]) -> Answer
+    // Samples that all fit, without a test.
+    fn with_fitting(mut self, setpoints: &[i32], actuals: &[i32]) -> Run
+        requires { ⌜ (length (now setpoints) ≡ length (now actuals)) × (length (now setpoints) ≤ 900 - self .tape .filled) ⌝ }
+        ensures { λ r. ⌜ r ≡ lengthened self (now (setpoints .entry)) (now (actuals .entry)) ⌝ }
+    {
+        let at = self.tape.filled;
+        let next = put(&mut self.tape.setpoints, at, setpoints);
+        put(&mut self.tape.actuals, at, actuals);
+        self.tape.filled = next;
+        self
+    }
+
+    // Samples until one is refused, each tested. The tape goes by value here, which copies it: so this is for samples of which some may not fit.
+    fn one_by_one(mut self, setpoints: &[i32], actuals: &[i32]) -> Answer
         ensures { λ r. ⌜ r ≡ manyOf self (samplesIn (now (setpoints .entry)) (now (actuals .entry))) ⌝ }
     {
         let load = self.load;
@@ -453,5 +469,18 @@ impl Run {
             run: self,
             refusal: refusal,
         }
+    }
+
+    // Samples, one after the other, until one is refused: what `sample` makes of each, without handing the run on for each.
+    pub fn samples(self, setpoints: &[i32], actuals: &[i32]) -> Answer
+        ensures { λ r. ⌜ r ≡ manyOf self (samplesIn (now (setpoints .entry)) (now (actuals .entry))) ⌝ }
+    {
+        if all_fit(self.room(), setpoints, actuals) {
+            return Answer {
+                run: self.with_fitting(setpoints, actuals),
+                refusal: Refusal::None,
+            };
+        }
+        self.one_by_one(setpoints, actuals)
     }
 }

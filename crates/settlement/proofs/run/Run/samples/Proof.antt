@@ -1,41 +1,51 @@
--- `settlement::run::Run::samples` meets its contract: what samples make of a run is what they make of its tape.
+-- `settlement::run::Run::samples` meets its contract: samples that fit are all taken.
 -- Assumes nothing.
 use borrow.Author.Needs.{needs}
 use denote.Ref.{now}
-use mathlib.Core.Path.{_∙_}
-use Rattle.claims.specs.Claims.{samplesOf}
-use Rattle.records.specs.Tape.{samplesIn}
-use Rattle.settlement.proofs.Many.{many-recorded}
+use native.Mathlib.Omega.{arith}
+use mathlib.Core.Path.{_≡_, ap, _∙_}
+use Rattle.vocabulary.specs.declared.refusal.Refusal.the-variants.{None}
+use Rattle.settlement.specs.declared.run.Run.{Run}
+use Rattle.settlement.specs.Many.{roomOf}
+use Rattle.settlement.specs.Fitting.{Fitting}
+use Rattle.settlement.proofs.FittingLaws.{room-few, fitting-taken}
 use Rattle.settlement.proofs.run.Run.samples.Statement.{statement}
 use Rattle.settlement.proofs.run.Run.samples.Tie as tie
 
-first-sample-requires : tie.Need-first-sample-requires
-first-sample-requires c κs = search needs
+room-requires : tie.Need-room-requires
+room-requires c κs = search needs
+
+all-fit-requires : tie.Need-all-fit-requires
+all-fit-requires c κs = search needs
+
+-- what the test said where it said yes
+all-fit-told : (c : tie.Then1) → let a = c .before .before .before .args in Fitting (roomOf (a .self)) (now (a .setpoints)) (now (a .actuals))
+all-fit-told c = rw (c .before .before .room .ensures) at (c .before .all-fit .ensures (c .if1 .taken))
+
+with-fitting-requires : tie.Need-with-fitting-requires
+with-fitting-requires c κs =
+    let f = all-fit-told c in
+    (f .paired, omega (arith, f .few, room-few (c .before .before .before .args .self)))
 
 returns : tie.Need-returns
-returns c = c .first-sample .ensures
+returns c =
+    let args = c .before .before .before .before .args in
+    ap (λ (r : Run). record { run = r; refusal = None }) (c .with-fitting .ensures)
+    ∙ fitting-taken (args .self) (now (args .setpoints)) (now (args .actuals)) (all-fit-told (c .before))
 
-interval-requires : tie.Need-interval-requires
-interval-requires c κs = search needs
-
-with-samples-requires : tie.Need-with-samples-requires
-with-samples-requires c κs = search needs
+one-by-one-requires : tie.Need-one-by-one-requires
+one-by-one-requires c κs = search needs
 
 returns-2 : tie.Need-returns-2
-unfolding samplesOf
-returns-2 c =
-    let at-tape = c .before in
-    let at-if = at-tape .before .before .before .before in
-    let args = at-if .before .before .before .args in
-    many-recorded (args .self) (samplesIn (now (args .setpoints)) (now (args .actuals))) (at-if .if1 .left)
-    (at-tape .with-samples .ensures ∙ rw (at-tape .before .interval .ensures))
+returns-2 c = search needs
 
 pub samples-spec : {M : Type 1} → statement M
 samples-spec =
     tie.close
     (tie.spec
-    first-sample-requires
+    room-requires
+    all-fit-requires
+    with-fitting-requires
     returns
-    interval-requires
-    with-samples-requires
+    one-by-one-requires
     returns-2)

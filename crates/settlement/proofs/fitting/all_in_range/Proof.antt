@@ -1,4 +1,4 @@
--- `records::tape::all_in_range` meets its contract. The loop's invariant: what is said of the powers so far, with what is to be said of
+-- `settlement::fitting::all_in_range` meets its contract. The loop's invariant: what is said of the powers so far, with what is to be said of
 -- the rest, is what is said of all.
 -- Assumes nothing.
 use borrow.Author.Needs.{needs}
@@ -13,9 +13,9 @@ use lib.ListN.{length, getD, drop, drop-of-length-le}
 use lib.Seq.{drop-cons}
 use Rattle.arithmetic.proofs.Signed.{back32}
 use Rattle.vocabulary.specs.Sample.{powerInRange}
-use Rattle.records.specs.Fitting.{allInRange}
-use Rattle.records.proofs.tape.all_in_range.Statement.{statement}
-use Rattle.records.proofs.tape.all_in_range.Tie as tie
+use Rattle.channel.specs.Acceptable.{allInRange}
+use Rattle.settlement.proofs.fitting.all_in_range.Statement.{statement}
+use Rattle.settlement.proofs.fitting.all_in_range.Tie as tie
 
 abbrev Inv-loop : tie.InvT-loop
 Inv-loop powers all₀ k₀ all k = (k ≤ length powers) × (allInRange powers ≡ (all && allInRange (drop k powers)))
