@@ -1,10 +1,9 @@
 -- THE PROMISE OF THIS CRATE: whoever feeds an input to a reader, cut in any way, and says where it ended, has printed `settle` of the input.
 use Prim.Native.Nat.{ℕ, _+_, _≤_, _<_, _^_}
 use mathlib.Core.Path.{_≡_, refl, sym, ap, _∙_}
-use mathlib.Core.Bool.{Bool, true, cond}
+use mathlib.Core.Bool.{true}
 use mathlib.Core.List.{List, [], _∷_, _++_, append-assoc, append-nil}
 use native.Mathlib.Decide.{ℕ-discrete}
-use borrow.Author.Tests.{le-ltb}
 use lib.ListN.{length, take, drop}
 use lib.Seq.{take-at}
 use Rattle.lines.specs.Feed.{Outcome}
@@ -14,14 +13,14 @@ use Rattle.lines.specs.Lines.{linesOf}
 use Rattle.lines.specs.declared.Gatherer.{Gatherer}
 use Rattle.lines.proofs.Calls.{after-end, after-other}
 use Rattle.lines.proofs.FeedMeaning.{handleBy, at, goes-on-after}
-use Rattle.sheets.specs.Buffer.{bufferLength}
-use Rattle.sheets.specs.declared.Printed.the-variants.{Length, TooShort}
+use Rattle.sheets.specs.Buffer.{bufferLength, lengthOf}
+use Rattle.sheets.proofs.Yielding.{answers, puts}
 use Rattle.text.specs.Desk.{Turn, lineTurn, finishTurn}
 use Rattle.text.specs.Settle.{andThen, withEnd, settle}
 use Rattle.text.specs.declared.desk.Desk.{Desk}
 use Rattle.text.proofs.Telling.{line-closed, finish-closed}
 use Rattle.text.proofs.WholeInput.{settles}
-use Rattle.feed.specs.Reader.{emptyReader, closedOf, feedOf, finishOf, readerOf, over, Yields, lengthOf}
+use Rattle.feed.specs.Reader.{emptyReader, closedOf, feedOf, finishOf, Yields}
 use Rattle.feed.specs.Feeding.{Feeds, used-up, closed, call}
 use Rattle.feed.specs.declared.Reader.{Reader}
 use Rattle.feed.specs.declared.Fed.{Fed}
@@ -84,9 +83,6 @@ fed-settles {input} few f = fed f [] ∙ settles input few
 -- WHAT A CALLER WRITES OUT is what was printed, as many bytes of the buffer as the call says
 pub written-out : {out out′ : List ℕ} {reader : Reader} {o : Outcome Desk} {r : Fed} → bufferLength ≤ length out → Yields out reader o r out′ → take (lengthOf (r .printed)) out′ ≡ o .text
 written-out {out} {out′} {reader} {o} {r} h y =
-    let c = le-ltb (length out) bufferLength h in
-    let p : r .printed ≡ Length (length (o .text)) =
-    ap (λ (x : Fed). x .printed) (y .answer)
-    ∙ ap (λ (c : Bool). cond {A = Fed} c (record { reader = reader; used = 0; printed = TooShort }) (record { reader = readerOf o; used = o .used; printed = Length (length (o .text)) }) .printed) c in
-    let b : out′ ≡ over (o .text) out = y .bytes ∙ ap (λ (c : Bool). cond c out (over (o .text) out)) c in
-    ap (λ (n : ℕ). take n out′) (ap lengthOf p) ∙ ap (take (length (o .text))) b ∙ take-at (o .text) (drop (length (o .text)) out) (length (o .text)) refl
+    ap (λ (f : Fed). take (lengthOf (f .printed)) out′) (answers h y)
+    ∙ ap (take (length (o .text))) (puts h y)
+    ∙ take-at (o .text) (drop (length (o .text)) out) (length (o .text)) refl

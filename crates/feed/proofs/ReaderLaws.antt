@@ -30,14 +30,16 @@ use Rattle.samples.proofs.Meaning.{begins, bytes-within, some-bytes, at-most}
 use Rattle.samples.proofs.StretchFed.{by-stretch}
 use Rattle.records.specs.Tape.{samplesIn}
 use Rattle.settlement.specs.Many.{roomOf}
-use Rattle.sheets.specs.Buffer.{bufferLength}
+use Rattle.sheets.specs.Buffer.{bufferLength, lengthOf, over}
+use Rattle.sheets.proofs.Yielding as yields
+use Rattle.sheets.proofs.Yielding.{over-length, long-enough}
 use Rattle.sheets.specs.declared.Printed.{Printed}
 use Rattle.sheets.specs.declared.Printed.the-variants.{Length, TooShort}
 use Rattle.text.specs.Desk.{Turn, Tells, answerOf, deskAt, lineTurn, finishTurn, samplesTurn, roomAt}
 use Rattle.text.specs.declared.desk.Stage.the-variants.{Open}
 use Rattle.text.specs.declared.desk.Desk.{Desk}
 use Rattle.text.specs.declared.desk.Told.{Told}
-use Rattle.feed.specs.Reader.{closedOf, feedOf, finishOf, readerOf, over, Yields, lengthOf}
+use Rattle.feed.specs.Reader.{closedOf, feedOf, finishOf, readerOf, unfedOf, fedOf, Yields}
 use Rattle.feed.specs.Steps.{Finds, Stretches, lineFound, afterOf, turnBy, leftBy, Moves, goesOn, Reads, fedBy, endedBy}
 use Rattle.feed.specs.declared.Reader.{Reader}
 use Rattle.feed.specs.declared.Found.{Found}
@@ -77,9 +79,6 @@ told-nothing desk out =
       };
       room = omega arith;
     }
-
-pub over-length : (text out : List ℕ) → length text ≤ length out → length (over text out) ≡ length out
-over-length text out h = length-append text (drop (length text) out) ∙ (let l : length (drop (length text) out) ≡ length out - length text = length-drop (length text) out in omega arith)
 
 -- a line by the bytes that are kept of it
 pub same-line : (d : Desk) (g : Gatherer) {n k : ℕ} {bytes : List ℕ} → bytes ≡ g .bytes → n ≡ g .count → k ≡ g .length → lineTurn d n (take k bytes) ≡ lineTurn d (g .count) (heldBy g)
@@ -505,37 +504,21 @@ come-on start {block} {out₀} {reader} {i} {r} {out} {out′} enough g m e c =
 
 -- ---- A CALL
 
-module _ (out : List ℕ) (reader : Reader) (o : Outcome Desk) where
-  pub too-short : length out < bufferLength → Yields out reader o (record { reader = reader; used = 0; printed = TooShort }) out
-  too-short h =
-      let b = lt-ltb (length out) bufferLength h in
-      record {
-        answer = sym (ap (λ (c : Bool). cond c (record { reader = reader; used = 0; printed = TooShort }) (record { reader = readerOf o; used = o .used; printed = Length (length (o .text)) })) b);
-        bytes = sym (ap (λ (c : Bool). cond c out (over (o .text) out)) b);
-        room = omega arith;
-      }
-
-  pub long-enough : {r : Fed} {out′ : List ℕ} → bufferLength ≤ length out → r .reader ≡ readerOf o → r .used ≡ o .used → r .printed ≡ Length (length (o .text)) → out′ ≡ over (o .text) out
-      → length (o .text) ≤ bufferLength → Yields out reader o r out′
-  long-enough h a u p b m =
-      let c = le-ltb (length out) bufferLength h in
-      record {
-        answer = (λ i. record { reader = a i; used = u i; printed = p i })
-            ∙ sym (ap (λ (c : Bool). cond c (record { reader = reader; used = 0; printed = TooShort }) (record { reader = readerOf o; used = o .used; printed = Length (length (o .text)) })) c);
-        bytes = b ∙ sym (ap (λ (c : Bool). cond c out (over (o .text) out)) c);
-        room = omega (arith, ap lengthOf p);
-      }
+pub too-short : (out : List ℕ) (reader : Reader) (o : Outcome Desk) → length out < bufferLength → Yields out reader o (unfedOf reader) out
+too-short out reader o h = yields.too-short (λ (f : Fed). f .printed) bufferLength out (unfedOf reader) (fedOf o) (o .text) h refl
 
 -- the whole of a call, and the input's end
 pub fed-whole : {out out′ : List ℕ} {reader : Reader} {block : List ℕ} {r : Moved} {f : Fed} → bufferLength ≤ length out → f ≡ fedBy r → Reads reader block out r out′
     → Yields out reader (feedOf reader block) f out′
-fed-whole {out} {out′} {reader} {block} h e t =
-    subst (λ (f : Fed). Yields out reader (feedOf reader block) f out′) (sym e)
-    (long-enough out reader (feedOf reader block) h (t .reader-is) (t .used) (ap Length (t .printed)) (t .bytes) (t .room))
+fed-whole {out} {out′} {reader} {block} {r} h e t =
+    let o : Outcome Desk = feedOf reader block in
+    let whole : fedBy r ≡ fedOf o = λ i. record { reader = t .reader-is i; used = t .used i; printed = Length (t .printed i) } in
+    long-enough (λ (f : Fed). f .printed) bufferLength out (unfedOf reader) (fedOf o) (o .text) h (e ∙ whole) (t .bytes) (omega (arith, h, t .room))
 
 pub finished : {out out′ : List ℕ} {reader : Reader} {n : ℕ} {told : Told} {f : Fed} → bufferLength ≤ length out → n ≡ reader .gatherer .count
     → Tells out (reader .desk) (finishTurn (reader .desk) n) told out′ → f ≡ endedBy (reader .gatherer) told → Yields out reader (finishOf reader) f out′
 finished {out} {out′} {reader} {n} {told} h e t q =
     let w = told-whole h (subst (λ (k : ℕ). Tells out (reader .desk) (finishTurn (reader .desk) k) told out′) e t) in
-    subst (λ (f : Fed). Yields out reader (finishOf reader) f out′) (sym q)
-    (long-enough out reader (finishOf reader) h (λ i. record { gatherer = reader .gatherer; desk = w .desk i }) refl (w .printed) (w .bytes) (w .room))
+    let o : Outcome Desk = finishOf reader in
+    let whole : endedBy (reader .gatherer) told ≡ fedOf o = λ i. record { reader = record { gatherer = reader .gatherer; desk = w .desk i }; used = 0; printed = w .printed i } in
+    long-enough (λ (f : Fed). f .printed) bufferLength out (unfedOf reader) (fedOf o) (o .text) h (q ∙ whole) (w .bytes) (omega (arith, h, w .room))

@@ -16,15 +16,14 @@ use Rattle.lines.specs.Gathering.{freshOf, longerBy, completed}
 use Rattle.lines.specs.Turns.{Turn}
 use Rattle.lines.specs.declared.Gatherer.{Gatherer}
 use Rattle.lines.proofs.FeedLaws.{at-lf, at-other, closed-stays}
-use Rattle.sheets.specs.Buffer.{bufferLength}
-use Rattle.sheets.specs.declared.Printed.the-variants.{Length, TooShort}
+use Rattle.sheets.specs.Buffer.{bufferLength, lengthOf}
+use Rattle.sheets.proofs.Yielding.{answers, same-length}
 use Rattle.text.specs.Desk.{lineTurn}
 use Rattle.text.specs.declared.desk.Desk.{Desk}
-use Rattle.feed.specs.Reader.{closedOf, feedOf, readerOf, over, Yields, lengthOf}
+use Rattle.feed.specs.Reader.{closedOf, feedOf, readerOf, fedOf, Yields}
 use Rattle.feed.specs.Feeding.{Feeds, Through, used-up, closed, call}
 use Rattle.feed.specs.declared.Reader.{Reader}
 use Rattle.feed.specs.declared.Fed.{Fed}
-use Rattle.feed.proofs.ReaderLaws.{over-length}
 
 told : (b : Bool) → (b ≡ true) ⊎ (b ≡ false)
 told true = inl refl
@@ -90,19 +89,6 @@ one-call {reader} {last} block i n e t =
           (call here [] (subst (λ (l : List ℕ). Feeds (readerOf (feedOf reader here)) l (t .text) last) rest (t .feeds)));
     }
 
--- what a call that was lent enough says
-module _ {out out′ : List ℕ} {reader : Reader} {o : Outcome Desk} {r : Fed} (h : bufferLength ≤ length out) (y : Yields out reader o r out′) where
-  pub answers : r ≡ record { reader = readerOf o; used = o .used; printed = Length (length (o .text)) }
-  answers =
-      y .answer
-      ∙ ap (λ (c : Bool). cond c (record { reader = reader; used = 0; printed = TooShort }) (record { reader = readerOf o; used = o .used; printed = Length (length (o .text)) }))
-      (le-ltb (length out) bufferLength h)
-
-  pub same-length : length out′ ≡ length out
-  same-length =
-      let few : length (o .text) ≤ length out = omega (arith, y .room, ap (λ (x : Fed). lengthOf (x .printed)) answers) in
-      ap length (y .bytes) ∙ ap (λ (c : Bool). length (cond c out (over (o .text) out))) (le-ltb (length out) bufferLength h) ∙ over-length (o .text) out few
-
 -- a step of the caller's loop
 pub record Called (reader : Reader) (block : List ℕ) (i : ℕ) (r : Fed) (out out′ : List ℕ) : Type 0 where
   pub within : i + r .used ≤ length block
@@ -116,14 +102,13 @@ pub called : {out out′ : List ℕ} {reader : Reader} {block : List ℕ} {i : �
 called {out} {out′} {reader} {block} {i} {r} h l y =
     let all : take (length block - i) (drop i block) ≡ drop i block = to-end block i in
     let here = feedOf reader (drop i block) in
-    let a : r ≡ record { reader = readerOf here; used = here .used; printed = Length (length (here .text)) } =
-    answers h y ∙ ap (λ (t : List ℕ). record { reader = readerOf (feedOf reader t); used = feedOf reader t .used; printed = Length (length (feedOf reader t .text)) }) all in
+    let a : r ≡ fedOf here = answers h y ∙ ap (λ (t : List ℕ). fedOf (feedOf reader t)) all in
     let u : r .used ≡ here .used = ap (λ (x : Fed). x .used) a in
     let left : length (drop i block) ≡ length block - i = length-drop i block in
     record {
       within = omega (arith, u, left, used-within lineTurn closedOf (drop i block) (reader .gatherer) (reader .desk));
       some = λ o. omega (arith, u, left, used-some lineTurn closedOf (drop i block) (reader .gatherer) (reader .desk) o (omega (arith, left)));
       on = λ {last} t. one-call block i (r .used) u (subst (λ (x : Reader). Through x (drop (i + r .used) block) last) (ap (λ (x : Fed). x .reader) a) t);
-      length-is = same-length h y;
-      room = omega (arith, y .room, same-length h y);
+      length-is = same-length h y refl;
+      room = omega (arith, y .room, same-length h y refl);
     }

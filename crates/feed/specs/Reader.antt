@@ -1,15 +1,13 @@
 -- What the calls of the reader make of a block of input, and of its end (RULES, 'Text').
-use Prim.Native.Nat.{ℕ, _≤_}
-use mathlib.Core.Path.{_≡_}
-use mathlib.Core.Bool.{Bool, cond}
-use mathlib.Core.List.{List, _++_}
-use lib.ListN.{length, drop}
-use lib.Dec.{ltb}
+use Prim.Native.Nat.{ℕ}
+use mathlib.Core.Bool.{Bool}
+use mathlib.Core.List.{List}
+use lib.ListN.{length}
 use Rattle.lines.specs.Gathering.{emptyGatherer}
 use Rattle.lines.specs.Feed as lines
 use Rattle.lines.specs.Feed.{Outcome}
+use Rattle.sheets.specs.Buffer as buffer
 use Rattle.sheets.specs.Buffer.{bufferLength}
-use Rattle.sheets.specs.declared.Printed.{Printed}
 use Rattle.sheets.specs.declared.Printed.the-variants.{Length, TooShort}
 use Rattle.text.specs.Desk.{emptyDesk, lineTurn, finishTurn, closedAt}
 use Rattle.text.specs.declared.desk.Desk.{Desk}
@@ -41,26 +39,12 @@ finishOf reader =
 abbrev pub readerOf : Outcome Desk → Reader
 readerOf o = record { gatherer = o .gatherer; desk = o .desk }
 
--- a text at a buffer's start, and the bytes after it as they were
-abbrev pub over : List ℕ → List ℕ → List ℕ
-over text out = text ++ drop (length text) out
-
 -- what a call answers; one that is lent a buffer that may be too short does nothing
-abbrev pub fedOf : List ℕ → Reader → Outcome Desk → Fed
-fedOf out reader o =
-    cond (ltb (length out) bufferLength)
-    (record { reader = reader; used = 0; printed = TooShort })
-    (record { reader = readerOf o; used = o .used; printed = Length (length (o .text)) })
+abbrev pub unfedOf : Reader → Fed
+unfedOf reader = record { reader = reader; used = 0; printed = TooShort }
 
-abbrev pub bytesOf : List ℕ → Outcome Desk → List ℕ
-bytesOf out o = cond (ltb (length out) bufferLength) out (over (o .text) out)
+abbrev pub fedOf : Outcome Desk → Fed
+fedOf o = record { reader = readerOf o; used = o .used; printed = Length (length (o .text)) }
 
-abbrev pub lengthOf : Printed → ℕ
-lengthOf (Length n) = n
-lengthOf TooShort = 0
-
--- and what was printed is within the buffer
-pub record Yields (out : List ℕ) (reader : Reader) (o : Outcome Desk) (r : Fed) (out′ : List ℕ) : Type 0 where
-  pub answer : r ≡ fedOf out reader o
-  pub bytes : out′ ≡ bytesOf out o
-  pub room : lengthOf (r .printed) ≤ length out
+abbrev pub Yields : List ℕ → Reader → Outcome Desk → Fed → List ℕ → Type 0
+Yields out reader o r out′ = buffer.Yields (λ (f : Fed). f .printed) bufferLength out (unfedOf reader) (fedOf o) (o .text) r out′

@@ -14,12 +14,12 @@ use Rattle.lines.specs.Turns.{quiet}
 use Rattle.lines.specs.declared.Gatherer.{Gatherer}
 use Rattle.lines.specs.declared.Gathered.{Gathered}
 use Rattle.samples.specs.Stretch.{Stretched}
-use Rattle.sheets.specs.Buffer.{bufferLength}
+use Rattle.sheets.specs.Buffer.{bufferLength, over}
 use Rattle.sheets.specs.declared.Printed.the-variants.{Length}
 use Rattle.text.specs.Desk.{Turn, lineTurn, samplesTurn}
 use Rattle.text.specs.declared.desk.Desk.{Desk}
 use Rattle.text.specs.declared.desk.Told.{Told}
-use Rattle.feed.specs.Reader.{feedOf, readerOf, over}
+use Rattle.feed.specs.Reader.{feedOf, readerOf}
 use Rattle.feed.specs.declared.Reader.{Reader}
 use Rattle.feed.specs.declared.Found.{Found}
 use Rattle.feed.specs.declared.Moved.{Moved}

@@ -12,9 +12,9 @@ ghost use lib.ListN.{length, take, drop};
 ghost use Rattle.lines.specs.Gathering.{gatheredOf};
 ghost use Rattle.lines.specs.Handing.{heldBy};
 ghost use Rattle.records.specs.Tape.{samplesIn};
-ghost use Rattle.sheets.specs.Buffer.{bufferLength};
+ghost use Rattle.sheets.specs.Buffer.{bufferLength, lengthOf};
 ghost use Rattle.text.specs.Desk.{Tells, lineTurn, closedAt};
-ghost use Rattle.feed.specs.Reader.{emptyReader, lengthOf, feedOf, finishOf, Yields};
+ghost use Rattle.feed.specs.Reader.{emptyReader, feedOf, finishOf, Yields};
 ghost use Rattle.feed.specs.Steps.{readerWith, lineFound, Finds, turnBy, afterOf, goesOn, Reads, fedBy, endedBy};
 
 // No quarter hour has more samples.

@@ -10,7 +10,7 @@ ghost use mathlib.Core.Bool.{true};
 ghost use Prim.Native.Nat.{_≤_};
 ghost use lib.ListN.{length};
 ghost use Rattle.mending.specs.Mender.{lineRoom};
-ghost use Rattle.mendfeed.specs.Reader.{lengthOf};
+ghost use Rattle.sheets.specs.Buffer.{lengthOf};
 ghost use Rattle.mendfeed.specs.Feeding.{Through};
 
 // The reader after some input, and whether all that it printed could be written out.

@@ -20,11 +20,13 @@ use Rattle.lines.proofs.Calls.{used-all, used-some, used-within}
 use Rattle.lines.proofs.WithinLaws.{by-line, lineThen, onGathered, rests-there, none-left}
 use Rattle.print.specs.Print.{Wrote, last}
 use Rattle.print.proofs.Writing.{wrote-nothing, join, at-start, measured, wrote-length}
-use Rattle.sheets.specs.declared.Printed.{Printed}
-use Rattle.sheets.specs.declared.Printed.the-variants.{Length, TooShort}
+use Rattle.sheets.specs.Buffer.{over}
+use Rattle.sheets.specs.declared.Printed.the-variants.{Length}
+use Rattle.sheets.proofs.Yielding as yields
+use Rattle.sheets.proofs.Yielding.{long-enough}
 use Rattle.mending.specs.Mender.{Turn, Turns, lineRoom, lineTurn, finishTurn}
 use Rattle.mending.proofs.TurnLaws.{as-turn}
-use Rattle.mendfeed.specs.Reader.{closedOf, feedOf, finishOf, readerOf, over, lengthOf, Yields}
+use Rattle.mendfeed.specs.Reader.{closedOf, feedOf, finishOf, readerOf, unfedOf, fedOf, Yields}
 use Rattle.mendfeed.specs.Steps.{Moves, So, Steps, Reads}
 use Rattle.mending.specs.declared.mender.Mender.{Mender}
 use Rattle.mending.specs.declared.mender.Told.{Told}
@@ -221,33 +223,15 @@ module _ {start : Reader} {block out₀ : List ℕ} {reader : Reader} {i next : 
 
 -- ---- WHAT A CALL ANSWERS
 
-module _ (out : List ℕ) (reader : Reader) (o : Outcome Mender) where
-  pub too-short : length out < lineRoom → Yields out reader o (record { reader = reader; used = 0; printed = TooShort }) out
-  too-short h =
-      let c = lt-ltb (length out) lineRoom h in
-      record {
-        answer = sym (ap (λ (b : Bool). cond b (record { reader = reader; used = 0; printed = TooShort }) (record { reader = readerOf o; used = o .used; printed = Length (length (o .text)) })) c);
-        bytes = sym (ap (λ (b : Bool). cond b out (over (o .text) out)) c);
-        room = omega arith;
-      }
-
-  pub long-enough : {r : Fed} {out′ : List ℕ} → lineRoom ≤ length out → r .reader ≡ readerOf o → r .used ≡ o .used → r .printed ≡ Length (length (o .text))
-      → out′ ≡ over (o .text) out → length (o .text) ≤ length out → Yields out reader o r out′
-  long-enough {r} {out′} h p u n b few =
-      let c = le-ltb (length out) lineRoom h in
-      record {
-        answer =
-            (λ i. record { reader = p i; used = u i; printed = n i })
-            ∙ sym (ap (λ (b : Bool). cond b (record { reader = reader; used = 0; printed = TooShort }) (record { reader = readerOf o; used = o .used; printed = Length (length (o .text)) })) c);
-        bytes = b ∙ sym (ap (λ (b : Bool). cond b out (over (o .text) out)) c);
-        room = subst (λ (x : Printed). lengthOf x ≤ length out) (sym n) few;
-      }
+pub too-short : (out : List ℕ) (reader : Reader) (o : Outcome Mender) → length out < lineRoom → Yields out reader o (unfedOf reader) out
+too-short out reader o h = yields.too-short (λ (f : Fed). f .printed) lineRoom out (unfedOf reader) (fedOf o) (o .text) h refl
 
 pub fed-whole : {out out′ : List ℕ} {reader : Reader} {block : List ℕ} {r : Moved} → lineRoom ≤ length out → Reads reader block out r out′
     → Yields out reader (feedOf (length out) reader block) (record { reader = r .reader; used = r .used; printed = Length (r .next) }) out′
 fed-whole {out} {out′} {reader} {block} {r} h t =
-    let few : length (feedOf (length out) reader block .text) ≤ length out = omega (arith, t .room, t .next) in
-    long-enough out reader (feedOf (length out) reader block) h (t .reader-is) (t .used) (ap Length (t .next)) (t .bytes) few
+    let o : Outcome Mender = feedOf (length out) reader block in
+    long-enough (λ (f : Fed). f .printed) lineRoom out (unfedOf reader) (fedOf o) (o .text) h
+    (λ i. record { reader = t .reader-is i; used = t .used i; printed = Length (t .next i) }) (t .bytes) (omega (arith, t .room, t .next))
 
 pub finished : {out out′ : List ℕ} {reader : Reader} {n : ℕ} {told : Told} → lineRoom ≤ length out → n ≡ reader .gatherer .count → Turns out 0 (finishTurn (reader .mender) n) told out′
     → Yields out reader (finishOf reader) (record { reader = record { gatherer = reader .gatherer; mender = told .mender }; used = 0; printed = Length (told .next) }) out′
@@ -257,5 +241,6 @@ finished {out} {out′} {reader} {n} {told} h e t =
     let text : List ℕ = finishTurn (reader .mender) (reader .gatherer .count) .text in
     let few : length text ≤ length out = omega (arith, u .text .short) in
     let far : length out ≤ last = u .text .wrote .reach in
-    long-enough out reader (finishOf reader) h (λ i. record { gatherer = reader .gatherer; mender = u .mender i }) refl
-    (ap Length (measured (u .text .wrote) (omega arith))) (at-start (u .text .wrote) few) few
+    long-enough (λ (f : Fed). f .printed) lineRoom out (unfedOf reader) (fedOf (finishOf reader)) text h
+    (λ i. record { reader = record { gatherer = reader .gatherer; mender = u .mender i }; used = 0; printed = Length (measured (u .text .wrote) (omega arith) i) })
+    (at-start (u .text .wrote) few) few

@@ -12,9 +12,10 @@ use Rattle.fields.proofs.DigitLaws.{to-end}
 use Rattle.lines.specs.Feed.{Outcome}
 use Rattle.lines.specs.Feeding.{Feeds, used-up, shut, call}
 use Rattle.lines.proofs.WithinLaws.{used-some, used-within}
-use Rattle.sheets.specs.declared.Printed.the-variants.{Length, TooShort}
+use Rattle.sheets.specs.Buffer.{lengthOf}
+use Rattle.sheets.proofs.Yielding.{answers, same-length}
 use Rattle.mending.specs.Mender.{lineRoom, lineTurn}
-use Rattle.mendfeed.specs.Reader.{closedOf, feedOf, readerOf, over, lengthOf, Yields}
+use Rattle.mendfeed.specs.Reader.{closedOf, feedOf, readerOf, fedOf, Yields}
 use Rattle.mendfeed.specs.Feeding.{Called, Through}
 use Rattle.mending.specs.declared.mender.Mender.{Mender}
 use Rattle.mendfeed.specs.declared.Reader.{Reader}
@@ -39,23 +40,6 @@ one-call {reader} {last} block i n room enough e t =
           (subst (λ (l : List ℕ). Feeds closedOf Called (o .gatherer) (o .desk) l (t .text) (last .gatherer) (last .mender)) rest (t .feeds)));
     }
 
--- what a call that was lent enough says
-module _ {out out′ : List ℕ} {reader : Reader} {o : Outcome Mender} {r : Fed} (h : lineRoom ≤ length out) (y : Yields out reader o r out′) where
-  answers : r ≡ record { reader = readerOf o; used = o .used; printed = Length (length (o .text)) }
-  answers =
-      y .answer
-      ∙ ap (λ (c : Bool). cond c (record { reader = reader; used = 0; printed = TooShort }) (record { reader = readerOf o; used = o .used; printed = Length (length (o .text)) }))
-      (le-ltb (length out) lineRoom h)
-
-  pub same-length : length out′ ≡ length out
-  same-length =
-      let few : length (o .text) ≤ length out = omega (arith, y .room, ap (λ (x : Fed). lengthOf (x .printed)) answers) in
-      let left : length (drop (length (o .text)) out) ≡ length out - length (o .text) = length-drop (length (o .text)) out in
-      ap length (y .bytes)
-      ∙ ap (λ (c : Bool). length (cond c out (over (o .text) out))) (le-ltb (length out) lineRoom h)
-      ∙ length-append (o .text) (drop (length (o .text)) out)
-      ∙ omega arith
-
 -- a step of the caller's loop
 pub record Step (reader : Reader) (block : List ℕ) (i : ℕ) (r : Fed) (out out′ : List ℕ) : Type 0 where
   pub within : i + r .used ≤ length block
@@ -69,15 +53,13 @@ pub step : {out out′ : List ℕ} {reader : Reader} {block : List ℕ} {i : ℕ
 step {out} {out′} {reader} {block} {i} {r} h l y =
     let all : take (length block - i) (drop i block) ≡ drop i block = to-end block i in
     let here : Outcome Mender = feedOf (length out) reader (drop i block) in
-    let a : r ≡ record { reader = readerOf here; used = here .used; printed = Length (length (here .text)) } =
-    answers h y
-    ∙ ap (λ (t : List ℕ). record { reader = readerOf (feedOf (length out) reader t); used = feedOf (length out) reader t .used; printed = Length (length (feedOf (length out) reader t .text)) }) all in
+    let a : r ≡ fedOf here = answers h y ∙ ap (λ (t : List ℕ). fedOf (feedOf (length out) reader t)) all in
     let u : r .used ≡ here .used = ap (λ (x : Fed). x .used) a in
     let left : length (drop i block) ≡ length block - i = length-drop i block in
     record {
       within = omega (arith, u, left, used-within lineTurn closedOf lineRoom (drop i block) (length out) (reader .gatherer) (reader .mender));
       some = λ o. omega (arith, u, left, used-some lineTurn closedOf lineRoom (drop i block) (length out) (reader .gatherer) (reader .mender) (rw (o, le-ltb _ _ h)) (omega (arith, left)));
       on = λ {last} t. one-call block i (r .used) (length out) h u (subst (λ (x : Reader). Through x (drop (i + r .used) block) last) (ap (λ (x : Fed). x .reader) a) t);
-      length-is = same-length h y;
-      room = omega (arith, y .room, same-length h y);
+      length-is = same-length h y refl;
+      room = omega (arith, y .room, same-length h y refl);
     }

@@ -12,7 +12,8 @@ use Rattle.print.specs.Print.{Wrote}
 use Rattle.mending.specs.Mender.{lineRoom, lineTurn}
 use Rattle.mending.specs.declared.mender.Stage.the-variants.{Open}
 use Rattle.mending.specs.declared.mender.Mender.{Mender}
-use Rattle.mendfeed.specs.Reader.{closedOf, feedOf, readerOf, over}
+use Rattle.sheets.specs.Buffer.{over}
+use Rattle.mendfeed.specs.Reader.{closedOf, feedOf, readerOf}
 use Rattle.mendfeed.specs.declared.Reader.{Reader}
 use Rattle.mendfeed.specs.declared.Moved.{Moved}
 use Rattle.mendfeed.specs.declared.Ran.{Ran}

@@ -11,8 +11,7 @@ ghost use mathlib.Core.Path.{_≡_};
 ghost use mathlib.Core.Bool.{true};
 ghost use Prim.Native.Nat.{_+_, _-_, _≤_, _<_};
 ghost use lib.ListN.{length, take, drop};
-ghost use Rattle.sheets.specs.Buffer.{bufferLength};
-ghost use Rattle.feed.specs.Reader.{lengthOf};
+ghost use Rattle.sheets.specs.Buffer.{bufferLength, lengthOf};
 ghost use Rattle.feed.specs.Feeding.{Through};
 
 // So much is read at once: each page of it costs as much as some fifty samples, and each reading as much as some hundred.

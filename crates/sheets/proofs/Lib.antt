@@ -3,3 +3,4 @@ pub mod Contracts
 pub mod Setpoints
 pub mod Printing
 pub mod Listing
+pub mod Yielding

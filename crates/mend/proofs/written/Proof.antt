@@ -1,5 +1,5 @@
 -- `mend::written` meets its contract. Assumes nothing.
-use Rattle.mendfeed.specs.Reader.{lengthOf}
+use Rattle.sheets.specs.Buffer.{lengthOf}
 use Rattle.sheets.specs.declared.Printed.{Printed}
 use lib.Seq.{length-take-le}
 use Prim.Native.Nat.{_≤_}

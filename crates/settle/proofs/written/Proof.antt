@@ -1,5 +1,5 @@
 -- `settle::written` meets its contract. Assumes nothing.
-use Rattle.feed.specs.Reader.{lengthOf}
+use Rattle.sheets.specs.Buffer.{lengthOf}
 use Rattle.sheets.specs.declared.Printed.{Printed}
 use lib.Seq.{length-take-le}
 use Prim.Native.Nat.{_≤_}
