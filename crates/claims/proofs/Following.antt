@@ -19,9 +19,18 @@ use Rattle.series.proofs.Scanned.{outputs-length}
 use Rattle.values.specs.Part.{Within}
 use Rattle.channel.specs.Along.{ogaAfter, ugaAfter, channelAfter, ogasAlong, ugasAlong, trackOf, Follows}
 use Rattle.contracts.specs.declared.terms.Terms.{Terms}
+use Rattle.claims.specs.declared.hour.Energies.{Energies}
+use Rattle.claims.specs.declared.hour.Measured.{Measured}
 use Rattle.claims.specs.Claims.{samplesAlong, measuredOf}
 use Rattle.claims.specs.Views.{samplesIn, measuredIn}
 use Rattle.claims.specs.Room.{Timely, Led}
+
+abbrev both : Channel → Energies → Energies → Measured
+both after above below = record { channel = after; positive = above; negative = below }
+
+-- what is measured of both directions, one after the other
+pub both-are : (after : Channel) (above above′ below below′ : Energies) → above ≡ above′ → below ≡ below′ → both after above below ≡ both after above′ below′
+both-are after above above′ below below′ e f = rw (e, f)
 
 within : (ch : Channel) (ss : List ℤ) → length (ch .ring) ≡ 302 → (i : ℕ) → i < length ss
     → Within (getD ss i (pos 0)) (getD (ogasAlong ch ss) i (pos 0)) (getD (ugasAlong ch ss) i (pos 0))

@@ -27,9 +27,10 @@ use Rattle.values.specs.Part.{amountOf, coveredOf}
 use Rattle.contracts.specs.declared.terms.Terms.{Terms}
 use Rattle.contracts.specs.Terms.{upperOf, limitsOf}
 use Rattle.claims.specs.Powers.{Samples, next, powersOf}
-use Rattle.claims.specs.Views.{partsOf, sumsOf, lessAt, lessOf, shortOf, wholeOf, energyHeld, slicesOf, portionsOf, claimsBy, energiesBy}
+use Rattle.claims.specs.Views.{partsOf, sumsOf, lessAt, lessOf, shortOf, wholeOf, energyHeld, restBy, claimsBy, energiesBy}
 use Rattle.claims.specs.Claims.{poolEnergy, restOf, claimsIn, energiesOf}
 use Rattle.claims.specs.Room.{Small, Fits, AllFit}
+use Rattle.claims.specs.declared.energies.Sums.{Sums}
 use Rattle.claims.proofs.PowerLaws.{powers-are}
 use Rattle.claims.proofs.Rests.{pieces-parted}
 use Rattle.claims.proofs.Joining.{rest-at, slice-at, lack-at, joined-claims}
@@ -124,7 +125,7 @@ module _ (d : Direction) (x : Samples) (seconds : ℕ) (ts : List Terms) (small 
   exact : (q : Quantity) → sumOf (powersOf d x q) % 2 ^ 64 ≡ sumOf (powersOf d x q)
   exact q = mod-eq-of-lt (small q .plain)
 
-  pub all-fit : AllFit seconds (sumsOf (powersOf d x) limits)
+  all-fit : AllFit seconds (sumsOf (powersOf d x) limits)
   unfolding sumsOf
   all-fit =
       record {
@@ -136,6 +137,9 @@ module _ (d : Direction) (x : Samples) (seconds : ℕ) (ts : List Terms) (small 
         surplus = rw (exact Surplus) (small Surplus .held);
         under = rw (exact UnderDelivery) (small UnderDelivery .held);
       }
+
+  pub fit-listed : (sums : Sums) → sums ≡ sumsOf (powersOf d x) limits → AllFit seconds sums
+  fit-listed sums e = rw e all-fit
 
   -- the pool's energies
   pool-is : (q : Quantity) (sum : ℕ) → sum ≡ sumOf (powersOf d x q) → energyHeld seconds sum ≡ poolEnergy seconds (powersOf d x q)
@@ -149,8 +153,8 @@ module _ (d : Direction) (x : Samples) (seconds : ℕ) (ts : List Terms) (small 
     room : length limits ≤ 32
     room = omega (arith, many)
 
-    claims-are : claimsBy (portionsOf seconds (sumsOf (powersOf d x) limits)) (length ts) ≡ claimsIn seconds (powersOf d x) ts
-    unfolding claimsBy portionsOf slicesOf sumsOf
+    claims-are : claimsBy seconds (sumsOf (powersOf d x) limits) (length ts) ≡ claimsIn seconds (powersOf d x) ts
+    unfolding claimsBy sumsOf
     claims-are =
         let stored = each-length (energyHeld seconds) (pieces Setpoint .sums) ∙ pieces-32 limits (powersOf d x Setpoint) room in
         rw
@@ -165,8 +169,8 @@ module _ (d : Direction) (x : Samples) (seconds : ℕ) (ts : List Terms) (small 
           shortfall = lack-at seconds limits (powersOf d x Inner) (powersOf d x Kept) (small Inner) (small Kept) (powersOf d x Covered) (kept-is d x) room;
         }))
 
-    pub energies-are : energiesBy seconds (sumsOf (powersOf d x) limits) (length ts) ≡ energiesOf seconds (powersOf d x) ts
-    unfolding energiesBy energiesOf restOf portionsOf slicesOf sumsOf
+    energies-are : energiesBy seconds (sumsOf (powersOf d x) limits) (length ts) ≡ energiesOf seconds (powersOf d x) ts
+    unfolding energiesBy restBy energiesOf restOf sumsOf
     energies-are =
         rw (
           claims-are,
@@ -180,3 +184,7 @@ module _ (d : Direction) (x : Samples) (seconds : ℕ) (ts : List Terms) (small 
           rest-at seconds limits (powersOf d x Actual) (small Actual),
           rest-at seconds limits (powersOf d x Acceptance) (small Acceptance),
         )
+
+    pub energies-listed : (sums : Sums) (count : ℕ) → sums ≡ sumsOf (powersOf d x) limits → length ts ≡ count
+        → energiesBy seconds sums count ≡ energiesOf seconds (powersOf d x) ts
+    energies-listed sums count e n = rw (e, ← n) energies-are

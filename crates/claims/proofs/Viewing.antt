@@ -30,7 +30,9 @@ use Rattle.values.specs.declared.value.Quantity.{Quantity}
 use Rattle.values.specs.declared.value.Quantity.the-variants.{Setpoint, Actual, Acceptance, Surplus, Shortfall, UnderDelivery, Inner, Floor, Covered, Kept}
 use Rattle.values.specs.Part.{amountOf, acceptanceOf, floorOf, ceilingOf, coveredOf, surplusOf}
 use Rattle.claims.specs.Powers.{Samples, next, powersOf}
-use Rattle.claims.specs.Views.{partAt, partsOf, deliveredOf, idleOf, busyOf, sumsOf}
+use Rattle.claims.specs.Views.{partAt, partsOf, idleOf, busyOf, sumsOf, sumsBy}
+use Rattle.claims.specs.declared.view.Seen.{Seen}
+use Rattle.claims.specs.declared.energies.Sums.{Sums}
 use Rattle.claims.specs.Room.{Level, Fitting, Faced, Roomy, Written, Viewed}
 use Rattle.claims.proofs.Joining.{along}
 use Rattle.claims.proofs.PowerLaws.{powers-are, powers-delivered}
@@ -132,39 +134,6 @@ module _ (d : Direction) (x : Samples) (q : Quantity) (limit : limited q ≡ tru
       let slices : each (sumHeld busy) (cutsOf limits) ≡ each (sumHeld (powersOf d x q)) (cutsOf limits) =
       each-same (sumHeld busy) (sumHeld (powersOf d x q)) (λ (c : Cut). rw (same-sum (sliceOf (c .low) (c .high)) (slice-none (c .low) (c .high)))) (cutsOf limits) in
       rw (slices, same-sum (λ v. v - lastOf limits) (above-none (lastOf limits)))
-
--- and so are the sums, by what was written down
-module _ (d : Direction) (x : Samples) (limits asked accepted required inner kept : List ℕ) (count surplus under : ℕ) where
-  pub sums-viewed : length (x .actuals) ≡ length (x .setpoints) → Written (busyOf (partsOf d x)) asked accepted required inner kept count surplus under
-      → record {
-        setpoint = piecesOf limits (take count asked);
-        actual = piecesOf limits (each (deliveredOf d) (x .actuals));
-        acceptance = piecesOf limits (take count accepted);
-        floor = piecesOf limits (take count required);
-        inner = piecesOf limits (take count inner);
-        kept = piecesOf limits (take count kept);
-        surplus = surplus;
-        «under_delivery» = under;
-      } ≡ sumsOf (powersOf d x) limits
-  unfolding sumsOf
-  sums-viewed level w =
-      rw (
-        powers-delivered d x level,
-        w .asked,
-        w .accepted,
-        w .required,
-        w .inner,
-        w .kept,
-        w .surplus,
-        w .under,
-        pieces-viewed d x Setpoint refl limits,
-        pieces-viewed d x Acceptance refl limits,
-        pieces-viewed d x Floor refl limits,
-        pieces-viewed d x Inner refl limits,
-        pieces-viewed d x Kept refl limits,
-        sum-viewed d x Surplus refl,
-        sum-viewed d x UnderDelivery refl,
-      )
 
 -- ---- one part more, or one that is left out
 
@@ -273,10 +242,42 @@ module _ (d : Direction) (x : Samples) (asked accepted required inner kept : Lis
           fitting = fitting-more;
         }
 
-  -- all of them
-  pub viewed-all : (count surplus under : ℕ) → Viewed d x asked accepted required inner kept count surplus under (length (x .setpoints))
-      → Written (busyOf (partsOf d x)) asked accepted required inner kept count surplus under
-  viewed-all count surplus under v =
-      let all : take (length (x .setpoints)) (partsOf d x) ≡ partsOf d x =
-      take-all (length (x .setpoints)) (partsOf d x) (omega (arith, outputs-length next (partAt d x) 0 (x .setpoints))) in
-      rw all at (v .written)
+  module _ (count surplus under : ℕ) (v : Viewed d x asked accepted required inner kept count surplus under (length (x .setpoints))) where
+    -- all of them
+    all-written : Written (busyOf (partsOf d x)) asked accepted required inner kept count surplus under
+    all-written =
+        let all : take (length (x .setpoints)) (partsOf d x) ≡ partsOf d x =
+        take-all (length (x .setpoints)) (partsOf d x) (omega (arith, outputs-length next (partAt d x) 0 (x .setpoints))) in
+        rw all at (v .written)
+
+-- the sums by what was written down are those of the powers
+module _ (d : Direction) (x : Samples) (limits asked accepted required inner kept : List ℕ) (seen : Seen) where
+  sums-viewed : length (x .actuals) ≡ length (x .setpoints)
+      → Viewed d x asked accepted required inner kept (seen .count) (seen .surplus) (seen .«under_delivery») (length (x .setpoints))
+      → sumsBy d limits seen (x .actuals) asked accepted required inner kept ≡ sumsOf (powersOf d x) limits
+  unfolding sumsBy sumsOf
+  sums-viewed level v =
+      let w = all-written d x asked accepted required inner kept (seen .count) (seen .surplus) (seen .«under_delivery») v in
+      rw (
+        powers-delivered d x level,
+        w .asked,
+        w .accepted,
+        w .required,
+        w .inner,
+        w .kept,
+        w .surplus,
+        w .under,
+        pieces-viewed d x Setpoint refl limits,
+        pieces-viewed d x Acceptance refl limits,
+        pieces-viewed d x Floor refl limits,
+        pieces-viewed d x Inner refl limits,
+        pieces-viewed d x Kept refl limits,
+        sum-viewed d x Surplus refl,
+        sum-viewed d x UnderDelivery refl,
+      )
+
+  -- at limits that are taken from a longer list
+  pub sums-listed : (cuts : List ℕ) (sums : Sums) → length (x .actuals) ≡ length (x .setpoints)
+      → Viewed d x asked accepted required inner kept (seen .count) (seen .surplus) (seen .«under_delivery») (length (x .setpoints))
+      → cuts ≡ limits → sums ≡ sumsBy d cuts seen (x .actuals) asked accepted required inner kept → sums ≡ sumsOf (powersOf d x) limits
+  sums-listed cuts sums level v at e = rw (e, at) (sums-viewed level v)

@@ -24,9 +24,8 @@ use Rattle.contracts.specs.declared.terms.Terms.{Terms}
 use Rattle.claims.specs.declared.claim.Claim.{Claim}
 use Rattle.claims.specs.declared.claim.Rest.{Rest}
 use Rattle.claims.specs.declared.view.Amounts.{Amounts}
+use Rattle.claims.specs.declared.view.Seen.{Seen}
 use Rattle.claims.specs.declared.energies.Sums.{Sums}
-use Rattle.claims.specs.declared.energies.Slices.{Slices}
-use Rattle.claims.specs.declared.energies.Portions.{Portions}
 use Rattle.claims.specs.declared.hour.Energies.{Energies}
 use Rattle.claims.specs.declared.hour.Measured.{Measured}
 use Rattle.claims.specs.Blank.{noClaims}
@@ -72,20 +71,6 @@ amountsOf p =
 
 -- ---- the sums
 
--- what is summed over a quarter hour, as 64 bits hold it
-unfoldable pub sumsOf : (Quantity → List ℕ) → List ℕ → Sums
-sumsOf powers limits =
-    record {
-      setpoint = piecesOf limits (powers Setpoint);
-      actual = piecesOf limits (powers Actual);
-      acceptance = piecesOf limits (powers Acceptance);
-      floor = piecesOf limits (powers Floor);
-      inner = piecesOf limits (powers Inner);
-      kept = piecesOf limits (powers Kept);
-      surplus = sumOf (powers Surplus) % 2 ^ 64;
-      «under_delivery» = sumOf (powers UnderDelivery) % 2 ^ 64;
-    }
-
 -- what sums have above others; - stops at 0
 unfoldable pub lessAt : List ℕ → ℕ → ℕ → ℕ
 lessAt others k sum = sum - getD others k 0
@@ -95,6 +80,33 @@ lessOf sums others = outputs next (lessAt others) 0 sums
 
 abbrev pub shortOf : Pieces → Pieces → Pieces
 shortOf all part = record { sums = lessOf (all .sums) (part .sums); rest = all .rest - part .rest }
+
+-- what is summed over a quarter hour, as 64 bits hold it; short of the inner bound is what its pieces have above those of what is kept
+unfoldable pub sumsOf : (Quantity → List ℕ) → List ℕ → Sums
+sumsOf powers limits =
+    record {
+      setpoint = piecesOf limits (powers Setpoint);
+      actual = piecesOf limits (powers Actual);
+      acceptance = piecesOf limits (powers Acceptance);
+      floor = piecesOf limits (powers Floor);
+      shortfall = shortOf (piecesOf limits (powers Inner)) (piecesOf limits (powers Kept));
+      surplus = sumOf (powers Surplus) % 2 ^ 64;
+      «under_delivery» = sumOf (powers UnderDelivery) % 2 ^ 64;
+    }
+
+-- the same by the actuals, and by what was written down of the samples
+unfoldable pub sumsBy : Direction → List ℕ → Seen → List ℤ → List ℕ → List ℕ → List ℕ → List ℕ → List ℕ → Sums
+sumsBy d limits seen actuals asked accepted required inner kept =
+    let of : List ℕ → Pieces = λ series. piecesOf limits (take (seen .count) series) in
+    record {
+      setpoint = of asked;
+      actual = piecesOf limits (each (deliveredOf d) actuals);
+      acceptance = of accepted;
+      floor = of required;
+      shortfall = shortOf (of inner) (of kept);
+      surplus = seen .surplus;
+      «under_delivery» = seen .«under_delivery»;
+    }
 
 -- the slices and the rest together
 abbrev pub wholeOf : Pieces → ℕ
@@ -106,23 +118,6 @@ wholeOf p = sumOf (p .sums) + p .rest
 unfoldable pub energyHeld : ℕ → ℕ → Kwh
 energyHeld seconds sum = energyOf (seconds * sum)
 
-unfoldable pub slicesOf : ℕ → Pieces → Slices
-slicesOf seconds p =
-    record { contracts = each (energyHeld seconds) (p .sums); rest = energyHeld seconds (p .rest); whole = energyHeld seconds (wholeOf p) }
-
-unfoldable pub portionsOf : ℕ → Sums → Portions
-portionsOf seconds s =
-    record {
-      setpoint = slicesOf seconds (s .setpoint);
-      actual = slicesOf seconds (s .actual);
-      acceptance = slicesOf seconds (s .acceptance);
-      floor = slicesOf seconds (s .floor);
-      shortfall = slicesOf seconds (shortOf (s .inner) (s .kept));
-    }
-
-abbrev pub restIn : Portions → Rest
-restIn p = record { setpoint = p .setpoint .rest; actual = p .actual .rest; acceptance = p .acceptance .rest }
-
 -- the claims by energies that are listed by place
 unfoldable pub claimAt : List Kwh → List Kwh → List Kwh → List Kwh → ℕ → Kwh → Claim
 claimAt actuals acceptances floors shortfalls k setpoint =
@@ -131,23 +126,31 @@ claimAt actuals acceptances floors shortfalls k setpoint =
 abbrev pub joinedOf : List Kwh → List Kwh → List Kwh → List Kwh → List Kwh → List Claim
 joinedOf actuals acceptances floors shortfalls = outputs next (claimAt actuals acceptances floors shortfalls) 0
 
-unfoldable pub claimsBy : Portions → ℕ → List Claim
-claimsBy p count =
-    joinedOf (p .actual .contracts) (p .acceptance .contracts) (p .floor .contracts) (p .shortfall .contracts) (take count (p .setpoint .contracts))
-    ++ drop count noClaims
+-- what the first contracts claim by the sums of a direction, what no contract takes, and the energies of the direction
+unfoldable pub claimsBy : ℕ → Sums → ℕ → List Claim
+claimsBy seconds s count =
+    let of : Pieces → List Kwh = λ p. each (energyHeld seconds) (p .sums) in
+    joinedOf (of (s .actual)) (of (s .acceptance)) (of (s .floor)) (of (s .shortfall)) (take count (of (s .setpoint))) ++ drop count noClaims
+
+unfoldable pub restBy : ℕ → Sums → Rest
+restBy seconds s =
+    record {
+      setpoint = energyHeld seconds (s .setpoint .rest);
+      actual = energyHeld seconds (s .actual .rest);
+      acceptance = energyHeld seconds (s .acceptance .rest);
+    }
 
 unfoldable pub energiesBy : ℕ → Sums → ℕ → Energies
 energiesBy seconds s count =
-    let p = portionsOf seconds s in
     record {
-      setpoint = p .setpoint .whole;
-      actual = p .actual .whole;
-      acceptance = p .acceptance .whole;
+      setpoint = energyHeld seconds (wholeOf (s .setpoint));
+      actual = energyHeld seconds (wholeOf (s .actual));
+      acceptance = energyHeld seconds (wholeOf (s .acceptance));
       surplus = energyHeld seconds (s .surplus);
-      shortfall = p .shortfall .whole;
+      shortfall = energyHeld seconds (wholeOf (s .shortfall));
       «under_delivery» = energyHeld seconds (s .«under_delivery»);
-      rest = restIn p;
-      claims = claimsBy p count;
+      rest = restBy seconds s;
+      claims = claimsBy seconds s count;
     }
 
 -- ---- both directions

@@ -2,26 +2,25 @@
 use crate::claim::Claim;
 use crate::claim::Rest;
 use crate::claim::joined;
-use crate::energies::Portions;
 use crate::energies::Sums;
-use crate::energies::portioned;
-use crate::energies::rest;
+use crate::energies::sliced;
 use crate::energies::summed;
+use crate::energies::whole;
+use crate::view::viewed;
 use arithmetic::energy::Kwh;
 use arithmetic::energy::energy;
 use channel::Channel;
 use contracts::book::Book;
 use contracts::terms::limits;
 use vocabulary::direction::Direction;
-use vocabulary::interval::Windows;
 ghost use mathlib.Core.Path.{_≡_};
 ghost use Prim.Native.Nat.{_≤_};
 ghost use lib.ListN.{length};
 ghost use Rattle.contracts.specs.Terms.{termsIn};
 ghost use Rattle.claims.specs.Powers.{samples, powersOf};
 ghost use Rattle.claims.specs.Claims.{energiesOf, measuredHeld};
-ghost use Rattle.claims.specs.Views.{claimsBy, energiesBy, samplesIn, measuredIn};
-ghost use Rattle.claims.specs.Room.{AllFit, Timely, Roomy, Led};
+ghost use Rattle.claims.specs.Views.{restBy, claimsBy, energiesBy, measuredIn};
+ghost use Rattle.claims.specs.Room.{AllFit, Timely, Roomy};
 
 // The energies of one direction: the pool's, what no contract takes, and each contract's claim. Under-delivery and shortfall are the pool's own, and not the contracts' sums.
 pub struct Energies {
@@ -42,47 +41,50 @@ pub struct Measured {
     pub negative: Energies,
 }
 
-// The claims of the first `count` contracts, by what each has of each quantity.
-fn claims(portions: Portions, count: usize) -> [Claim; 32]
-    requires { ⌜ count ≤ 32 ⌝ }
-    ensures { λ r. ⌜ r ≡ claimsBy portions count ⌝ }
+// What no contract takes, by the sums of a direction.
+fn rest(sums: Sums, seconds: u64) -> Rest
+    requires { ⌜ AllFit seconds sums ⌝ }
+    ensures { λ r. ⌜ r ≡ restBy seconds sums ⌝ }
 {
-    let setpoint = portions.setpoint;
-    let actual = portions.actual;
-    let acceptance = portions.acceptance;
-    let floor = portions.floor;
-    let shortfall = portions.shortfall;
-    let setpoints = setpoint.contracts;
-    let actuals = actual.contracts;
-    let acceptances = acceptance.contracts;
-    let floors = floor.contracts;
-    let shortfalls = shortfall.contracts;
-    joined(setpoints, actuals, acceptances, floors, shortfalls, count)
+    let setpoint = sums.setpoint;
+    let actual = sums.actual;
+    let acceptance = sums.acceptance;
+    Rest {
+        setpoint: energy(seconds * setpoint.rest),
+        actual: energy(seconds * actual.rest),
+        acceptance: energy(seconds * acceptance.rest),
+    }
 }
 
-// The energies of a direction, by its sums.
+// The claims of the first `count` contracts.
+fn claims(sums: Sums, seconds: u64, count: usize) -> [Claim; 32]
+    requires { ⌜ (count ≤ 32) × AllFit seconds sums ⌝ }
+    ensures { λ r. ⌜ r ≡ claimsBy seconds sums count ⌝ }
+{
+    joined(
+        sliced(sums.setpoint, seconds),
+        sliced(sums.actual, seconds),
+        sliced(sums.acceptance, seconds),
+        sliced(sums.floor, seconds),
+        sliced(sums.shortfall, seconds),
+        count,
+    )
+}
+
+// The energies of a direction.
 fn energies_by(sums: Sums, seconds: u64, count: usize) -> Energies
     requires { ⌜ (count ≤ 32) × AllFit seconds sums ⌝ }
     ensures { λ r. ⌜ r ≡ energiesBy seconds sums count ⌝ }
 {
-    let portions = portioned(sums, seconds);
-    let setpoint = portions.setpoint;
-    let actual = portions.actual;
-    let acceptance = portions.acceptance;
-    let shortfall = portions.shortfall;
-    let asked = setpoint.whole;
-    let delivered = actual.whole;
-    let accepted = acceptance.whole;
-    let missing = shortfall.whole;
     Energies {
-        setpoint: asked,
-        actual: delivered,
-        acceptance: accepted,
+        setpoint: whole(sums.setpoint, seconds),
+        actual: whole(sums.actual, seconds),
+        acceptance: whole(sums.acceptance, seconds),
         surplus: energy(seconds * sums.surplus),
-        shortfall: missing,
+        shortfall: whole(sums.shortfall, seconds),
         under_delivery: energy(seconds * sums.under_delivery),
-        rest: rest(portions),
-        claims: claims(portions, count),
+        rest: rest(sums, seconds),
+        claims: claims(sums, seconds, count),
     }
 }
 
@@ -92,7 +94,8 @@ fn no_powers() -> [u64; 900]
     [0u64; 900]
 }
 
-// The energies of the samples in one direction, for the contracts of a list, by series that are lent.
+// The energies of the samples in one direction, for the contracts of a list. The series are lent, since making them takes longer than a good part of
+// what is done with them.
 fn listed(
     direction: Direction,
     setpoints: &[i32],
@@ -113,12 +116,22 @@ fn listed(
 {
     let upper = limits(book.terms());
     let count = book.held();
-    let sums = summed(
+    let seen = viewed(
         direction,
         setpoints,
         actuals,
         ogas,
         ugas,
+        asked,
+        accepted,
+        required,
+        inner,
+        kept,
+    );
+    let sums = summed(
+        direction,
+        actuals,
+        seen,
         asked,
         accepted,
         required,
@@ -192,34 +205,6 @@ fn no_bounds() -> [i64; 900]
     [0i64; 900]
 }
 
-// A quarter hour that a channel was led along, with the bounds at its samples.
-fn led(
-    after: Channel,
-    windows: Windows,
-    setpoints: [i32; 900],
-    actuals: [i32; 900],
-    ogas: &[i64],
-    ugas: &[i64],
-    positive: Book,
-    negative: Book,
-) -> Measured
-    requires { ⌜ Led (now ogas) (now ugas) (windows .samples) × Timely (samplesIn (now ogas) (now ugas) (windows .samples) setpoints actuals) (windows .seconds) ⌝ }
-    ensures { λ r. ⌜ r ≡ measuredIn after (windows .seconds) (samplesIn (now (ogas .entry)) (now (ugas .entry)) (windows .samples) setpoints actuals) (termsIn positive) (termsIn negative) ⌝ }
-{
-    let n = windows.samples;
-    let seconds = windows.seconds as u64;
-    both(
-        after,
-        &setpoints[..n],
-        &actuals[..n],
-        &ogas[..n],
-        &ugas[..n],
-        seconds,
-        positive,
-        negative,
-    )
-}
-
 // The quarter hour that a run holds: as many samples from the start of the arrays as the channel's interval has.
 pub fn measure(
     channel: Channel,
@@ -232,18 +217,18 @@ pub fn measure(
 {
     let interval = channel.interval();
     let windows = interval.windows();
+    let n = windows.samples;
+    let seconds = windows.seconds as u64;
     let mut ogas = no_bounds();
-    let mut ugas = no_bounds();
-    let after = channel
-        .sized()
-        .along(setpoints, windows.samples, &mut ogas, &mut ugas);
-    led(
+    let mut ugas = ogas;
+    let after = channel.sized().along(setpoints, n, &mut ogas, &mut ugas);
+    both(
         after,
-        windows,
-        setpoints,
-        actuals,
-        &ogas,
-        &ugas,
+        &setpoints[..n],
+        &actuals[..n],
+        &ogas[..n],
+        &ugas[..n],
+        seconds,
         positive,
         negative,
     )

@@ -4,18 +4,40 @@ use Rattle.claims.specs.Views.{claimsBy}
 use borrow.Author.Needs.{needs}
 use Rattle.claims.proofs.hour.claims.Statement.{statement}
 use Rattle.claims.proofs.hour.claims.Tie as tie
-use Rattle.claims.proofs.hour.claims.Reads as reads
-use Rattle.claims.proofs.hour.claims.Lts as lts
-use Rattle.claims.proofs.claim.joined.Reads as joined-reads
 
--- src/hour.rt:62:5
+sliced-requires : tie.Need-sliced-requires
+sliced-requires c κs = search needs
+
+sliced-requires-2 : tie.Need-sliced-requires-2
+sliced-requires-2 c κs = search needs
+
+sliced-requires-3 : tie.Need-sliced-requires-3
+sliced-requires-3 c κs = search needs
+
+sliced-requires-4 : tie.Need-sliced-requires-4
+sliced-requires-4 c κs = search needs
+
+sliced-requires-5 : tie.Need-sliced-requires-5
+sliced-requires-5 c κs = search needs
+
 joined-requires : tie.Need-joined-requires
 joined-requires c κs = search needs
 
--- src/hour.rt:48:1
 returns : tie.Need-returns
 unfolding claimsBy
-returns c = rw (c .joined .ensures)
+returns c =
+    let three = c .before .before .before in
+    let two = three .before in
+    rw (c .joined .ensures, c .before .sliced5 .ensures, c .before .before .sliced4 .ensures, three .sliced3 .ensures, two .sliced2 .ensures, two .before .sliced .ensures)
 
 pub claims-spec : {M : Type 1} → statement M
-claims-spec = tie.close (tie.spec joined-requires returns)
+claims-spec =
+    tie.close
+    (tie.spec
+    sliced-requires
+    sliced-requires-2
+    sliced-requires-3
+    sliced-requires-4
+    sliced-requires-5
+    joined-requires
+    returns)
