@@ -5,6 +5,7 @@ pub mod PowerLaws
 pub mod Viewing
 pub mod Rests
 pub mod Portions
+pub mod Shortfalls
 pub mod Claims
 pub mod Cap
 pub mod Prefix

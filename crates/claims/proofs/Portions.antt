@@ -47,7 +47,7 @@ unfolding each
 below-each f g h [] = none
 below-each f g h (x ∷ l) = more (h x) (below-each f g h l)
 
-kept-le : (p : Part) → amountOf Kept p ≤ amountOf Inner p
+pub kept-le : (p : Part) → amountOf Kept p ≤ amountOf Inner p
 unfolding leastOf
 kept-le p = omega arith
 
@@ -72,7 +72,7 @@ module _ (d : Direction) (x : Samples) where
 
 -- ---- sums less smaller sums
 
-less-shift : (w : ℕ) (others : List ℕ) (i : ℕ) (l : List ℕ) → outputs next (lessAt (w ∷ others)) (suc i) l ≡ outputs next (lessAt others) i l
+pub less-shift : (w : ℕ) (others : List ℕ) (i : ℕ) (l : List ℕ) → outputs next (lessAt (w ∷ others)) (suc i) l ≡ outputs next (lessAt others) i l
 unfolding outputs lessAt
 less-shift w others i [] = refl
 less-shift w others i (v ∷ l) = rw (add-one (suc i), add-one i, less-shift w others (suc i) l)

@@ -6,15 +6,15 @@ use mathlib.Core.List.{List, [], _∷_, _++_, append-nil}
 use Prim.Native.Nat.{ℕ, zero, suc, _+_, _-_, _*_, _%_, _^_, _≤_, _<_}
 use native.Mathlib.Omega.{arith}
 use native.Mathlib.Numerals.{add-one}
-use native.Mathlib.Nat.{mod-add-mod, zero-add}
+use native.Mathlib.Nat.{mod-add-mod, zero-add, add-zero}
 use borrow.Author.Count.{below-none, below-more}
 use borrow.Author.Tests.{eqb-true, eq-eqb}
 use mir.Syntax.{w32}
 use mir.Val.{SFits}
-use lib.Dec.{eqb}
-use lib.IntN.{ℤ, pos}
+use lib.Dec.{eqb, ltb}
+use lib.IntN.{pos}
 use lib.ListN.{length, take, set, getD, length-set, length-append}
-use lib.Seq.{take-suc-set, take-all}
+use lib.Seq.{take-suc-set, take-set-le, take-all}
 use Rattle.arithmetic.specs.Whole.{leastOf, mostOf}
 use Rattle.arithmetic.proofs.Booleans.{both}
 use Rattle.series.specs.Sums.{overOf, sumOf}
@@ -30,12 +30,13 @@ use Rattle.values.specs.declared.value.Quantity.{Quantity}
 use Rattle.values.specs.declared.value.Quantity.the-variants.{Setpoint, Actual, Acceptance, Surplus, Shortfall, UnderDelivery, Inner, Floor, Covered, Kept}
 use Rattle.values.specs.Part.{amountOf, acceptanceOf, floorOf, ceilingOf, coveredOf, surplusOf}
 use Rattle.claims.specs.Powers.{Samples, next, powersOf}
-use Rattle.claims.specs.Views.{partAt, partsOf, idleOf, busyOf, sumsOf, sumsBy}
+use Rattle.claims.specs.Views.{partAt, partsOf, idleOf, busyOf, fallsOf, shortsOf, shortOf, sumsOf, sumsBy}
 use Rattle.claims.specs.declared.view.Seen.{Seen}
 use Rattle.claims.specs.declared.energies.Sums.{Sums}
-use Rattle.claims.specs.Room.{Level, Fitting, Faced, Roomy, Written, Viewed}
+use Rattle.claims.specs.Room.{Small, Fitting, Faced, Roomy, Written, Viewed}
 use Rattle.claims.proofs.Joining.{along}
 use Rattle.claims.proofs.PowerLaws.{powers-are, powers-delivered}
+use Rattle.claims.proofs.Shortfalls.{shorts-pieces}
 
 -- ---- nothing on a part
 
@@ -148,54 +149,82 @@ busy-end (x ∷ l) zero p h = refl
 busy-end (x ∷ l) (suc i) p h =
     rw (busy-end l i p (omega arith)) (after (idleOf x) x (busyOf (take i l)) (cond (idleOf (getD l i p)) [] (getD l i p ∷ [])))
 
+falls : Part → Bool
+falls p = ltb (amountOf Kept p) (amountOf Inner p)
+
+shorts-end : (ps : List Part) (p : Part) → shortsOf (ps ++ (p ∷ [])) ≡ shortsOf ps ++ cond (falls p) (p ∷ []) []
+unfolding shortsOf falls
+shorts-end [] p = refl
+shorts-end (x ∷ ps) p = rw (shorts-end ps p) (joined (falls x) x (shortsOf ps) (cond (falls p) (p ∷ []) []))
+  where
+    joined : (b : Bool) (x : Part) (l m : List Part) → cond b (x ∷ (l ++ m)) (l ++ m) ≡ cond b (x ∷ l) l ++ m
+    joined true x l m = refl
+    joined false x l m = refl
+
 -- ---- parts written down
 
 write-one : (f : Part → ℕ) (ps : List Part) (p : Part) (l : List ℕ) (count : ℕ) → count < length l → take count l ≡ each f ps
     → take (count + 1) (set l count (f p)) ≡ each f (ps ++ (p ∷ []))
 write-one f ps p l count h e = rw (add-one, take-suc-set l count (f p) h, e, each-end f ps p)
 
+-- a power of a part that falls short is written down, and another is written over
+write-short : (f : Part → ℕ) (ps : List Part) (p : Part) (l : List ℕ) (short : ℕ) (b : Bool) → short < length l → take short l ≡ each f ps
+    → take (short + cond b 1 0) (set l short (f p)) ≡ each f (ps ++ cond b (p ∷ []) [])
+write-short f ps p l short true h e = write-one f ps p l short h e
+write-short f ps p l short false h e = rw (add-zero short, append-nil, take-set-le short l short (f p) (omega arith)) e
+
+fall-one : (b : Bool) → cond b 1 0 ≤ 1
+fall-one true = omega arith
+fall-one false = omega arith
+
+pub falls-one : (kept inner : ℕ) → fallsOf kept inner ≤ 1
+falls-one kept inner = fall-one (ltb kept inner)
+
 add-up : (f : Part → ℕ) (ps : List Part) (p : Part) (sum : ℕ) → sum ≡ sumOf (each f ps) % 2 ^ 64
     → (sum + f p) % 2 ^ 64 ≡ sumOf (each f (ps ++ (p ∷ []))) % 2 ^ 64
 add-up f ps p sum e = rw (e, each-end f ps p, over-snoc (λ w. w) (each f ps) (f p)) (mod-add-mod (sumOf (each f ps)) (2 ^ 64) (f p))
 
 module _ (asked accepted required inner kept : List ℕ) where
-  pub written-none : Written [] asked accepted required inner kept 0 0 0
-  unfolding each overOf
+  pub written-none : Written [] asked accepted required inner kept 0 0 0 0
+  unfolding each overOf shortsOf
   written-none =
-      record { counted = refl; asked = refl; accepted = refl; required = refl; inner = refl; kept = refl; surplus = refl; under = refl }
+      record { counted = refl; fewer = omega arith; asked = refl; accepted = refl; required = refl; inner = refl; kept = refl; surplus = refl; under = refl }
 
-  module _ (ps : List Part) (p : Part) (count surplus under : ℕ) (room : Roomy asked accepted required inner kept) (h : count < 900)
-      (w : Written ps asked accepted required inner kept count surplus under) where
+  module _ (ps : List Part) (p : Part) (count short surplus under : ℕ) (room : Roomy asked accepted required inner kept) (h : count < 900)
+      (w : Written ps asked accepted required inner kept count short surplus under) where
     written-more : Written (ps ++ (p ∷ [])) (set asked count (amountOf Setpoint p))
-        (set accepted count (amountOf Acceptance p)) (set required count (amountOf Floor p)) (set inner count (amountOf Inner p))
-        (set kept count (amountOf Kept p)) (count + 1) ((surplus + amountOf Surplus p) % 2 ^ 64) ((under + amountOf UnderDelivery p) % 2 ^ 64)
+        (set accepted count (amountOf Acceptance p)) (set required count (amountOf Floor p)) (set inner short (amountOf Inner p))
+        (set kept short (amountOf Kept p)) (count + 1) (short + fallsOf (amountOf Kept p) (amountOf Inner p)) ((surplus + amountOf Surplus p) % 2 ^ 64) ((under + amountOf UnderDelivery p) % 2 ^ 64)
+    unfolding falls
     written-more =
+        let spot : short < 900 = omega (arith, w .fewer) in
         record {
           counted = rw (length-append ps (p ∷ []), w .counted);
+          fewer = omega (arith, w .fewer, fall-one (falls p));
           asked = write-one (amountOf Setpoint) ps p asked count (omega (arith, room .asked)) (w .asked);
           accepted = write-one (amountOf Acceptance) ps p accepted count (omega (arith, room .accepted)) (w .accepted);
           required = write-one (amountOf Floor) ps p required count (omega (arith, room .required)) (w .required);
-          inner = write-one (amountOf Inner) ps p inner count (omega (arith, room .inner)) (w .inner);
-          kept = write-one (amountOf Kept) ps p kept count (omega (arith, room .kept)) (w .kept);
+          inner = rw (shorts-end ps p) (write-short (amountOf Inner) (shortsOf ps) p inner short (falls p) (omega (arith, spot, room .inner)) (w .inner));
+          kept = rw (shorts-end ps p) (write-short (amountOf Kept) (shortsOf ps) p kept short (falls p) (omega (arith, spot, room .kept)) (w .kept));
           surplus = add-up (amountOf Surplus) ps p surplus (w .surplus);
           under = add-up (amountOf UnderDelivery) ps p under (w .under);
         }
 
     room-more : (v1 v2 v3 v4 v5 : ℕ)
-        → Roomy (set asked count v1) (set accepted count v2) (set required count v3) (set inner count v4) (set kept count v5)
+        → Roomy (set asked count v1) (set accepted count v2) (set required count v3) (set inner short v4) (set kept short v5)
     room-more v1 v2 v3 v4 v5 =
         record {
           asked = length-set asked count v1 ∙ room .asked;
           accepted = length-set accepted count v2 ∙ room .accepted;
           required = length-set required count v3 ∙ room .required;
-          inner = length-set inner count v4 ∙ room .inner;
-          kept = length-set kept count v5 ∙ room .kept;
+          inner = length-set inner short v4 ∙ room .inner;
+          kept = length-set kept short v5 ∙ room .kept;
         }
 
 -- ---- the samples gone through
 
 module _ (d : Direction) (x : Samples) (asked accepted required inner kept : List ℕ) where
-  pub viewed-none : Roomy asked accepted required inner kept → Viewed d x asked accepted required inner kept 0 0 0 0
+  pub viewed-none : Roomy asked accepted required inner kept → Viewed d x asked accepted required inner kept 0 0 0 0 0
   unfolding busyOf
   viewed-none room =
       record {
@@ -205,8 +234,8 @@ module _ (d : Direction) (x : Samples) (asked accepted required inner kept : Lis
         fitting = below-none (λ k. SFits w32 (getD (x .setpoints) k (pos 0)) × SFits w32 (getD (x .actuals) k (pos 0)));
       }
 
-  module _ (p : Part) (count surplus under i : ℕ) (h : i < length (x .setpoints)) (f : Faced d x i p)
-      (v : Viewed d x asked accepted required inner kept count surplus under i) where
+  module _ (p : Part) (count short surplus under i : ℕ) (h : i < length (x .setpoints)) (f : Faced d x i p)
+      (v : Viewed d x asked accepted required inner kept count short surplus under i) where
     fitting-more : Fitting (x .setpoints) (x .actuals) (i + 1)
     fitting-more =
         below-more (λ k. SFits w32 (getD (x .setpoints) k (pos 0)) × SFits w32 (getD (x .actuals) k (pos 0))) i (v .fitting) (f .setpoint, f .actual)
@@ -218,7 +247,7 @@ module _ (d : Direction) (x : Samples) (asked accepted required inner kept : Lis
     next-part : busyOf (take (i + 1) (partsOf d x)) ≡ busyOf (take i (partsOf d x)) ++ cond (idleOf p) [] (p ∷ [])
     next-part = rw (add-one) (busy-end (partsOf d x) i p (omega (arith, outputs-length next (partAt d x) 0 (x .setpoints))) ∙ rw here)
 
-    pub viewed-idle : idleOf p ≡ true → Viewed d x asked accepted required inner kept count surplus under (i + 1)
+    pub viewed-idle : idleOf p ≡ true → Viewed d x asked accepted required inner kept count short surplus under (i + 1)
     viewed-idle e =
         record {
           room = v .room;
@@ -229,35 +258,43 @@ module _ (d : Direction) (x : Samples) (asked accepted required inner kept : Lis
 
     pub viewed-more : length (x .setpoints) ≤ 900 → idleOf p ≡ false
         → Viewed d x (set asked count (amountOf Setpoint p)) (set accepted count (amountOf Acceptance p))
-        (set required count (amountOf Floor p)) (set inner count (amountOf Inner p)) (set kept count (amountOf Kept p)) (count + 1)
-        ((surplus + amountOf Surplus p) % 2 ^ 64) ((under + amountOf UnderDelivery p) % 2 ^ 64) (i + 1)
+        (set required count (amountOf Floor p)) (set inner short (amountOf Inner p)) (set kept short (amountOf Kept p)) (count + 1)
+        (short + fallsOf (amountOf Kept p) (amountOf Inner p)) ((surplus + amountOf Surplus p) % 2 ^ 64) ((under + amountOf UnderDelivery p) % 2 ^ 64) (i + 1)
     viewed-more few e =
         let fits : count < 900 = omega (arith, v .few) in
         record {
-          room = room-more asked accepted required inner kept (busyOf (take i (partsOf d x))) p count surplus under (v .room) fits (v .written) _ _ _ _ _;
+          room = room-more asked accepted required inner kept (busyOf (take i (partsOf d x))) p count short surplus under (v .room) fits (v .written) _ _ _ _ _;
           few = omega (arith, v .few);
           written =
               rw (next-part, e)
-              (written-more asked accepted required inner kept (busyOf (take i (partsOf d x))) p count surplus under (v .room) fits (v .written));
+              (written-more asked accepted required inner kept (busyOf (take i (partsOf d x))) p count short surplus under (v .room) fits (v .written));
           fitting = fitting-more;
         }
 
-  module _ (count surplus under : ℕ) (v : Viewed d x asked accepted required inner kept count surplus under (length (x .setpoints))) where
+  module _ (count short surplus under : ℕ) (v : Viewed d x asked accepted required inner kept count short surplus under (length (x .setpoints))) where
     -- all of them
-    all-written : Written (busyOf (partsOf d x)) asked accepted required inner kept count surplus under
+    all-written : Written (busyOf (partsOf d x)) asked accepted required inner kept count short surplus under
     all-written =
         let all : take (length (x .setpoints)) (partsOf d x) ≡ partsOf d x =
         take-all (length (x .setpoints)) (partsOf d x) (omega (arith, outputs-length next (partAt d x) 0 (x .setpoints))) in
         rw all at (v .written)
 
 -- the sums by what was written down are those of the powers
-module _ (d : Direction) (x : Samples) (limits asked accepted required inner kept : List ℕ) (seen : Seen) where
+module _ (d : Direction) (x : Samples) (limits asked accepted required inner kept : List ℕ) (seen : Seen) (seconds : ℕ)
+    (small : (q : Quantity) → Small seconds (powersOf d x q)) where
+  -- what is short is so without the samples that do not fall short
+  short-viewed : shortOf (piecesOf limits (each (amountOf Inner) (shortsOf (busyOf (partsOf d x))))) (piecesOf limits (each (amountOf Kept) (shortsOf (busyOf (partsOf d x)))))
+      ≡ shortOf (piecesOf limits (powersOf d x Inner)) (piecesOf limits (powersOf d x Kept))
+  short-viewed =
+      shorts-pieces limits (busyOf (partsOf d x)) (rw (sum-viewed d x Inner refl) (small Inner .plain)) (rw (sum-viewed d x Kept refl) (small Kept .plain))
+      ∙ rw (pieces-viewed d x Inner refl limits, pieces-viewed d x Kept refl limits)
+
   sums-viewed : length (x .actuals) ≡ length (x .setpoints)
-      → Viewed d x asked accepted required inner kept (seen .count) (seen .surplus) (seen .«under_delivery») (length (x .setpoints))
+      → Viewed d x asked accepted required inner kept (seen .count) (seen .short) (seen .surplus) (seen .«under_delivery») (length (x .setpoints))
       → sumsBy d limits seen (x .actuals) asked accepted required inner kept ≡ sumsOf (powersOf d x) limits
   unfolding sumsBy sumsOf
   sums-viewed level v =
-      let w = all-written d x asked accepted required inner kept (seen .count) (seen .surplus) (seen .«under_delivery») v in
+      let w = all-written d x asked accepted required inner kept (seen .count) (seen .short) (seen .surplus) (seen .«under_delivery») v in
       rw (
         powers-delivered d x level,
         w .asked,
@@ -270,14 +307,13 @@ module _ (d : Direction) (x : Samples) (limits asked accepted required inner kep
         pieces-viewed d x Setpoint refl limits,
         pieces-viewed d x Acceptance refl limits,
         pieces-viewed d x Floor refl limits,
-        pieces-viewed d x Inner refl limits,
-        pieces-viewed d x Kept refl limits,
+        short-viewed,
         sum-viewed d x Surplus refl,
         sum-viewed d x UnderDelivery refl,
       )
 
   -- at limits that are taken from a longer list
   pub sums-listed : (cuts : List ℕ) (sums : Sums) → length (x .actuals) ≡ length (x .setpoints)
-      → Viewed d x asked accepted required inner kept (seen .count) (seen .surplus) (seen .«under_delivery») (length (x .setpoints))
+      → Viewed d x asked accepted required inner kept (seen .count) (seen .short) (seen .surplus) (seen .«under_delivery») (length (x .setpoints))
       → cuts ≡ limits → sums ≡ sumsBy d cuts seen (x .actuals) asked accepted required inner kept → sums ≡ sumsOf (powersOf d x) limits
   sums-listed cuts sums level v at e = rw (e, at) (sums-viewed level v)

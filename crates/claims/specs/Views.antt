@@ -3,7 +3,7 @@
 use Prim.Native.Nat.{ℕ, _+_, _*_, _-_, _%_, _^_}
 use mathlib.Core.Bool.{Bool, cond, _&&_, _||_}
 use mathlib.Core.List.{List, [], _∷_, _++_}
-use lib.Dec.{eqb}
+use lib.Dec.{eqb, ltb}
 use lib.IntN.{ℤ, pos}
 use lib.ListN.{take, drop, getD}
 use Rattle.arithmetic.specs.Whole.{up, down}
@@ -57,6 +57,15 @@ unfoldable pub busyOf : List Part → List Part
 busyOf [] = []
 busyOf (p ∷ ps) = cond (idleOf p) (busyOf ps) (p ∷ busyOf ps)
 
+-- 1 where what is kept falls short of the inner bound
+abbrev pub fallsOf : ℕ → ℕ → ℕ
+fallsOf kept inner = cond (ltb kept inner) 1 0
+
+-- the parts on which it does: on the others both have the same slices, and nothing is short (proofs/Shortfalls)
+unfoldable pub shortsOf : List Part → List Part
+shortsOf [] = []
+shortsOf (p ∷ ps) = cond (ltb (amountOf Kept p) (amountOf Inner p)) (p ∷ shortsOf ps) (shortsOf ps)
+
 unfoldable pub amountsOf : Part → Amounts
 amountsOf p =
     record {
@@ -97,13 +106,13 @@ sumsOf powers limits =
 -- the same by the actuals, and by what was written down of the samples
 unfoldable pub sumsBy : Direction → List ℕ → Seen → List ℤ → List ℕ → List ℕ → List ℕ → List ℕ → List ℕ → Sums
 sumsBy d limits seen actuals asked accepted required inner kept =
-    let of : List ℕ → Pieces = λ series. piecesOf limits (take (seen .count) series) in
+    let of : ℕ → List ℕ → Pieces = λ n series. piecesOf limits (take n series) in
     record {
-      setpoint = of asked;
+      setpoint = of (seen .count) asked;
       actual = piecesOf limits (each (deliveredOf d) actuals);
-      acceptance = of accepted;
-      floor = of required;
-      shortfall = shortOf (of inner) (of kept);
+      acceptance = of (seen .count) accepted;
+      floor = of (seen .count) required;
+      shortfall = shortOf (of (seen .short) inner) (of (seen .short) kept);
       surplus = seen .surplus;
       «under_delivery» = seen .«under_delivery»;
     }

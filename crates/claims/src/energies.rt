@@ -100,7 +100,7 @@ pub(crate) fn summed(
     upper: [u64; 32],
     count: usize,
 ) -> Sums
-    requires { ⌜ Roomy (now asked) (now accepted) (now required) (now inner) (now kept) × ((seen .count ≤ 900) × (length (now actuals) ≤ 900)) ⌝ }
+    requires { ⌜ Roomy (now asked) (now accepted) (now required) (now inner) (now kept) × ((seen .count ≤ 900) × ((seen .short ≤ 900) × (length (now actuals) ≤ 900))) ⌝ }
     ensures { λ r. ⌜ (r ≡ sumsBy direction (take count upper) seen (now (actuals .entry)) (now (asked .entry)) (now (accepted .entry)) (now (required .entry))
         (now (inner .entry)) (now (kept .entry)))
         × (length (now (asked .exit)) ≡ length (now (asked .entry))) ⌝ }
@@ -111,7 +111,7 @@ pub(crate) fn summed(
         actual: pieces_delivered(direction, actuals, asked, upper, count),
         acceptance: pieces(accepted, n, upper, count),
         floor: pieces(required, n, upper, count),
-        shortfall: pieces_short(inner, kept, n, upper, count),
+        shortfall: pieces_short(inner, kept, seen.short, upper, count),
         surplus: seen.surplus,
         under_delivery: seen.under_delivery,
     }

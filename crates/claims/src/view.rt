@@ -14,7 +14,7 @@ ghost use Prim.Native.Nat.{_≤_, _<_};
 ghost use lib.ListN.{length, drop};
 ghost use Rattle.series.specs.Scan.{each};
 ghost use Rattle.claims.specs.Powers.{samples};
-ghost use Rattle.claims.specs.Views.{deliveredOf, idleOf, amountsOf};
+ghost use Rattle.claims.specs.Views.{deliveredOf, idleOf, fallsOf, amountsOf};
 ghost use Rattle.claims.specs.Room.{Level, Roomy, Faced, Viewed};
 
 // The quantities of one part that are summed over a quarter hour, but for the actual, in units.
@@ -28,9 +28,10 @@ pub struct Amounts {
     pub kept: u64,
 }
 
-// How many parts are not idle, and the sums of those quantities that no contract has a slice of.
+// How many parts are not idle, how many fall short of the inner bound, and the sums of those quantities that no contract has a slice of.
 pub struct Seen {
     pub count: usize,
+    pub short: usize,
     pub surplus: u64,
     pub under_delivery: u64,
 }
@@ -89,6 +90,16 @@ fn amounts_of(part: Part) -> Amounts
     }
 }
 
+// 1 where what is kept falls short of the inner bound, and else 0: a number to add, so that the processor has no turn to guess.
+fn falls_short(kept: u64, inner: u64) -> usize
+    ensures { λ r. ⌜ r ≡ fallsOf kept inner ⌝ }
+{
+    if kept < inner {
+        return 1;
+    }
+    0
+}
+
 // The side of the i-th sample that a direction looks at.
 fn faced(
     direction: Direction,
@@ -106,7 +117,8 @@ fn faced(
     facing(direction, setpoints[i], actuals[i], oga, uga)
 }
 
-// Each other quantity of the samples that has a slice, as a series of its own. A sample that is idle on the direction's side is left out.
+// Each other quantity of the samples that has a slice, as a series of its own. A sample that is idle on the direction's side is left out; and one that does
+// not fall short is written over in the series of the inner bound and of what is kept, of which only the difference counts.
 pub(crate) fn viewed(
     direction: Direction,
     setpoints: &[i32],
@@ -122,9 +134,10 @@ pub(crate) fn viewed(
     requires { ⌜ Level (samples (now setpoints) (now actuals) (now ogas) (now ugas)) × Roomy (now asked) (now accepted) (now required) (now inner) (now kept) ⌝ }
     ensures { λ r. ⌜ Viewed direction (samples (now (setpoints .entry)) (now (actuals .entry)) (now (ogas .entry)) (now (ugas .entry)))
         (now (asked .exit)) (now (accepted .exit)) (now (required .exit)) (now (inner .exit)) (now (kept .exit))
-        (r .count) (r .surplus) (r .«under_delivery») (length (now (setpoints .entry))) ⌝ }
+        (r .count) (r .short) (r .surplus) (r .«under_delivery») (length (now (setpoints .entry))) ⌝ }
 {
     let mut count: usize = 0;
+    let mut short: usize = 0;
     let mut surplus: u64 = 0;
     let mut under_delivery: u64 = 0;
     let mut i: usize = 0;
@@ -138,14 +151,16 @@ pub(crate) fn viewed(
         asked[count] = amounts.setpoint;
         accepted[count] = amounts.acceptance;
         required[count] = amounts.floor;
-        inner[count] = amounts.inner;
-        kept[count] = amounts.kept;
+        inner[short] = amounts.inner;
+        kept[short] = amounts.kept;
+        short += falls_short(amounts.kept, amounts.inner);
         surplus = wrapping_add_u64(surplus, amounts.surplus);
         under_delivery = wrapping_add_u64(under_delivery, amounts.under_delivery);
         count += 1;
     }
     Seen {
         count,
+        short,
         surplus,
         under_delivery,
     }

@@ -21,7 +21,7 @@ pieces-requires-3 c κs = search needs
 pieces-short-requires : tie.Need-pieces-short-requires
 pieces-short-requires c κs =
     let pre = c .before .before .before .before .before .before .before .before .before .before .before .before .before .pre in
-    (omega (arith, pre .0 .inner, pre .1 .0), omega (arith, pre .0 .kept, pre .1 .0))
+    (omega (arith, pre .0 .inner, pre .1 .1 .0), omega (arith, pre .0 .kept, pre .1 .1 .0))
 
 same-length : tie.Need-same-length
 same-length c = search needs

@@ -1,5 +1,6 @@
 -- `claims::hour::listed` meets its contract. The sums are those of the direction (Viewing), they fit, and the energies by them are those of the direction (Portions).
 -- Assumes nothing.
+use Prim.Native.Nat.{_≤_}
 use mathlib.Core.Path.{_≡_, _∙_}
 use native.Mathlib.Omega.{arith}
 use lib.ListN.{take}
@@ -40,7 +41,8 @@ summed-requires : tie.Need-summed-requires
 summed-requires c κs =
     let v = seen c in
     let level = start (listing v) .pre .0 .level in
-    (v .viewed .ensures .room, (omega (arith, v .viewed .ensures .few, level .few), omega (arith, level .actuals, level .few)))
+    let seen-few : v .viewed .result .count ≤ 900 = omega (arith, v .viewed .ensures .few, level .few) in
+    (v .viewed .ensures .room, (omega (arith, seen-few), (omega (arith, v .viewed .ensures .written .fewer, seen-few), omega (arith, level .actuals, level .few))))
 
 -- the sums are those of the direction
 sums-are : (c : tie.After-summed)
@@ -52,8 +54,9 @@ sums-are c =
     let s = start h in
     let a = s .args in
     let x = samples (a .setpoints .now) (a .actuals .now) (a .ogas .now) (a .ugas .now) in
+    let small = smalls (a .direction) x (a .seconds) (s .pre .0) (v .viewed .ensures .fitting) in
     let limits = held-limits (a .book) (h .held .result) (h .held .ensures) _ (h .before .limits .result) (h .before .limits .ensures) (h .before .before .terms .ensures) in
-    sums-listed (a .direction) x (limitsOf (termsIn (a .book))) _ _ _ _ _ (v .viewed .result) (take (h .held .result) (h .before .limits .result)) (c .summed .result)
+    sums-listed (a .direction) x (limitsOf (termsIn (a .book))) _ _ _ _ _ (v .viewed .result) (a .seconds) small (take (h .held .result) (h .before .limits .result)) (c .summed .result)
     (s .pre .0 .level .actuals) (v .viewed .ensures) limits (c .summed .ensures .0)
 
 energies-by-requires : tie.Need-energies-by-requires

@@ -1,6 +1,6 @@
 -- `claims::hour::measure` meets its contract. Both series hold the bounds along the setpoints (Following).
 -- Assumes nothing.
-use mathlib.Core.Path.{_≡_, refl, sym}
+use mathlib.Core.Path.{refl, sym}
 use Prim.Native.Nat.{_≤_}
 use native.Mathlib.Omega.{arith}
 use lib.ListN.{length, take}

@@ -7,19 +7,19 @@ use lib.ListN.{length}
 use Rattle.claims.specs.Powers.{samples}
 use Rattle.claims.specs.Views.{amountsOf}
 use Rattle.claims.specs.Room.{Viewed}
-use Rattle.claims.proofs.Viewing.{viewed-none, viewed-idle, viewed-more}
+use Rattle.claims.proofs.Viewing.{falls-one, viewed-none, viewed-idle, viewed-more}
 use Rattle.claims.proofs.view.viewed.Statement.{statement}
 use Rattle.claims.proofs.view.viewed.Tie as tie
 
 abbrev Inv-loop : tie.InvT-loop
-Inv-loop direction setpoints actuals ogas ugas asked₀ accepted₀ required₀ inner₀ kept₀ count₀ surplus₀ under-delivery₀ i₀ asked accepted required
-    inner kept count surplus under-delivery i =
+Inv-loop direction setpoints actuals ogas ugas asked₀ accepted₀ required₀ inner₀ kept₀ count₀ short₀ surplus₀ under-delivery₀ i₀ asked accepted required
+    inner kept count short surplus under-delivery i =
     (i ≤ length setpoints)
-    × Viewed direction (samples setpoints actuals ogas ugas) asked accepted required inner kept count surplus under-delivery i
+    × Viewed direction (samples setpoints actuals ogas ugas) asked accepted required inner kept count short surplus under-delivery i
 
 abbrev μ-loop : tie.MeasureT-loop
-μ-loop direction setpoints actuals ogas ugas asked₀ accepted₀ required₀ inner₀ kept₀ count₀ surplus₀ under-delivery₀ i₀ asked accepted required
-    inner kept count surplus under-delivery i =
+μ-loop direction setpoints actuals ogas ugas asked₀ accepted₀ required₀ inner₀ kept₀ count₀ short₀ surplus₀ under-delivery₀ i₀ asked accepted required
+    inner kept count short surplus under-delivery i =
     length setpoints - i
 
 -- there is room for one more
@@ -28,6 +28,9 @@ spot c =
     let test = c .before .before .before .before in
     let s = test .before .before .before .before .before .before .before in
     omega (arith, test .before .loop .inv .1 .few, test .loop-test .taken, s .pre .0 .few)
+
+spot-short : (c : tie.After-amounts-of Inv-loop μ-loop) → c .before .before .before .before .before .loop .short < 900
+spot-short c = omega (arith, spot c, c .before .before .before .before .before .loop .inv .1 .written .fewer)
 
 loop-holds : tie.Need-loop-holds Inv-loop μ-loop
 loop-holds c =
@@ -57,7 +60,7 @@ loop-again c =
     let v = l .loop in
     let h = c .before .before .before .loop-test .taken in (
       omega arith,
-      viewed-idle (a .direction) x (v .asked) (v .accepted) (v .required) (v .inner) (v .kept) (c .before .before .faced .result) (v .count)
+      viewed-idle (a .direction) x (v .asked) (v .accepted) (v .required) (v .inner) (v .kept) (c .before .before .faced .result) (v .count) (v .short)
           (v .surplus) (v .under-delivery) (v .i) h (c .before .before .faced .ensures) (v .inv .1) (sym (c .before .idle .ensures) ∙ c .if1 .taken),
     )
 
@@ -83,16 +86,25 @@ slice-write-required : tie.Need-slice-write-required Inv-loop μ-loop
 slice-write-required c = omega (arith, spot c, c .before .before .before .before .before .loop .inv .1 .room .required)
 
 mul-inner : tie.Need-mul-inner Inv-loop μ-loop
-mul-inner c = omega (arith, spot c)
+mul-inner c = omega (arith, spot-short c)
 
 slice-write-inner : tie.Need-slice-write-inner Inv-loop μ-loop
-slice-write-inner c = omega (arith, spot c, c .before .before .before .before .before .loop .inv .1 .room .inner)
+slice-write-inner c = omega (arith, spot-short c, c .before .before .before .before .before .loop .inv .1 .room .inner)
 
 mul-kept : tie.Need-mul-kept Inv-loop μ-loop
-mul-kept c = omega (arith, spot c)
+mul-kept c = omega (arith, spot-short c)
 
 slice-write-kept : tie.Need-slice-write-kept Inv-loop μ-loop
-slice-write-kept c = omega (arith, spot c, c .before .before .before .before .before .loop .inv .1 .room .kept)
+slice-write-kept c = omega (arith, spot-short c, c .before .before .before .before .before .loop .inv .1 .room .kept)
+
+falls-short-requires : tie.Need-falls-short-requires Inv-loop μ-loop
+falls-short-requires c κs = tt
+
+add-short : tie.Need-add-short Inv-loop μ-loop
+add-short c =
+    let amounts = c .before .amounts-of .result in
+    let one : c .falls-short .result ≤ 1 = rw (c .falls-short .ensures) (falls-one (amounts .kept) (amounts .inner)) in
+    omega (arith, spot-short (c .before), one)
 
 wrapping-add-u64-requires : tie.Need-wrapping-add-u64-requires Inv-loop μ-loop
 wrapping-add-u64-requires c κs = tt
@@ -101,7 +113,7 @@ wrapping-add-u64-requires-2 : tie.Need-wrapping-add-u64-requires-2 Inv-loop μ-l
 wrapping-add-u64-requires-2 c κs = tt
 
 add-count : tie.Need-add-count Inv-loop μ-loop
-add-count c = omega (arith, spot (c .before .before))
+add-count c = omega (arith, spot (c .before .before .before))
 
 loop-less-2 : tie.Need-loop-less-2 Inv-loop μ-loop
 loop-less-2 c = omega arith
@@ -109,7 +121,8 @@ loop-less-2 c = omega arith
 loop-again-2 : tie.Need-loop-again-2 Inv-loop μ-loop
 unfolding amountsOf
 loop-again-2 c =
-    let amounts = c .before .before in
+    let falls = c .before .before in
+    let amounts = falls .before in
     let seen = amounts .before .before .before in
     let l = seen .before .before in
     let s = l .before .before .before .before .before .before in
@@ -118,9 +131,9 @@ loop-again-2 c =
     let v = l .loop in
     let h = seen .before .loop-test .taken in
     let busy = sym (amounts .before .before .idle .ensures) ∙ amounts .before .if1 .left in
-    rw (c .wrapping-add-u642 .ensures, c .before .wrapping-add-u64 .ensures, amounts .amounts-of .ensures) (
+    rw (c .wrapping-add-u642 .ensures, c .before .wrapping-add-u64 .ensures, falls .falls-short .ensures, amounts .amounts-of .ensures) (
       omega arith,
-      viewed-more (a .direction) x (v .asked) (v .accepted) (v .required) (v .inner) (v .kept) (seen .faced .result) (v .count) (v .surplus)
+      viewed-more (a .direction) x (v .asked) (v .accepted) (v .required) (v .inner) (v .kept) (seen .faced .result) (v .count) (v .short) (v .surplus)
           (v .under-delivery) (v .i) h (seen .faced .ensures) (v .inv .1) (s .pre .0 .few) busy,
     )
 
@@ -169,6 +182,8 @@ viewed-spec =
     slice-write-inner
     mul-kept
     slice-write-kept
+    falls-short-requires
+    add-short
     wrapping-add-u64-requires
     wrapping-add-u64-requires-2
     add-count
