@@ -51,8 +51,8 @@ pub(crate) fn length_of(printed: Printed) -> u64 {
     }
 }
 
-// The text that was printed at the start of a buffer.
-pub(crate) fn showed(printed: Printed, out: &[u8]) {
+// The text that was printed at the start of a buffer, which comes by value: lending it would be some steps more in each caller.
+pub(crate) fn showed(printed: Printed, out: [u8; 16384]) {
     let n = length_of(printed) as usize;
     if n <= out.len() {
         io::write_all(STDOUT_FILENO, &out[..n]);

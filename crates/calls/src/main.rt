@@ -22,7 +22,9 @@ mod script; // what the fields of a line say
 
 use arithmetic::money::Cents;
 use arithmetic::power::Units;
+use channel::Channel;
 use libc::STDIN_FILENO;
+use quarter::sheet::Sheets;
 use quarter::sheet::no_sheets;
 use settlement::run::Answer;
 use settlement::run::Run;
@@ -122,7 +124,7 @@ fn show_total(at: u64, refusal: Refusal, quarters: u8, fees: Cents, penalties: C
     answer::answered(at, refusal);
     let mut out = answer::dotted();
     let printed = print_total(&mut out, quarters, fees, penalties);
-    answer::showed(printed, &out);
+    answer::showed(printed, out);
 }
 
 fn end(run: Run, at: u64) -> Run {
@@ -136,24 +138,23 @@ fn contracts_in(run: Run, direction: Direction) -> u64 {
     run.books().book(direction).count() as u64
 }
 
+// The head is printed before the contracts are counted, and shown after them: so the run is used late, which is checked sooner.
 fn heading(run: Run, at: u64) {
-    let above = contracts_in(run, Direction::Positive);
-    let below = contracts_in(run, Direction::Negative);
-    answer::counted_both(at, above, below);
     let heading = run.heading();
     let interval = heading.interval;
     let mut out = answer::dotted();
     let printed = print_head(&mut out, heading.date, interval, heading.lot);
-    answer::showed(printed, &out);
+    let above = contracts_in(run, Direction::Positive);
+    answer::counted_both(at, above, contracts_in(run, Direction::Negative));
+    answer::showed(printed, out);
 }
 
 // What the taking of a quarter hour answered.
-fn show_taken(taken: Taken, at: u64) {
-    let refusal = taken.refusal;
+fn show_taken(at: u64, refusal: Refusal, quarter: u8, sheets: Sheets) {
     answer::answered(at, refusal);
     let mut out = answer::dotted();
-    let printed = print_quarter(&mut out, taken.quarter, taken.sheets);
-    answer::showed(printed, &out);
+    let printed = print_quarter(&mut out, quarter, sheets);
+    answer::showed(printed, out);
 }
 
 // The printing calls whose numbers all stand in the line.
@@ -179,32 +180,27 @@ fn printed_numbers(line: &[u8], out: &mut [u8]) -> Printed {
     }
 }
 
-fn printed_block(run: Run, out: &mut [u8]) -> Printed {
-    let ended = run.end();
-    print_block(out, ended.past)
-}
-
-// The printing call of a line.
-fn printed(held: Taken, line: &[u8], out: &mut [u8]) -> Printed {
-    match script::letter(line, 0) {
-        b'Q' => return print_quarter(out, script::byte(line, 3), held.sheets),
-        b'P' => return printed_block(held.run, out),
-        _ => return printed_numbers(line, out),
-    }
-}
-
-// The length of the text of a printing call, which is printed where it has room.
-fn text_length(held: Taken, line: &[u8]) -> u64 {
+// A printing call, and the whole buffer that it was lent. The length of the text may decide how much that is, and is asked where there is room.
+fn print_numbers(at: u64, line: &[u8]) {
     let mut whole = answer::dotted();
-    answer::length_of(printed(held, line, &mut whole))
-}
-
-// A printing call, and the whole buffer that it was lent. The length of the text may decide how much is lent.
-fn print(held: Taken, at: u64, line: &[u8]) {
-    let n = script::lent(line, text_length(held, line));
+    let text = printed_numbers(line, &mut whole);
+    let n = script::lent(line, answer::length_of(text));
     let mut buf = answer::dotted();
     let lent = &mut buf[..n];
-    let told = printed(held, line, lent);
+    let told = printed_numbers(line, lent);
+    answer::showed_whole(at, told, lent);
+}
+
+// The same of the sheets of the last taking. Each kind of text has a function that holds what it prints and no more: one for all, with the run, took the
+// prover longer than these three.
+fn print_sheets(sheets: Sheets, at: u64, line: &[u8]) {
+    let quarter = script::byte(line, 3);
+    let mut whole = answer::dotted();
+    let text = print_quarter(&mut whole, quarter, sheets);
+    let n = script::lent(line, answer::length_of(text));
+    let mut buf = answer::dotted();
+    let lent = &mut buf[..n];
+    let told = print_quarter(lent, quarter, sheets);
     answer::showed_whole(at, told, lent);
 }
 
@@ -216,14 +212,24 @@ fn not_printed(at: u64, refusal: Refusal, line: &[u8]) {
     answer::buffer(&buf[..n]);
 }
 
-// The block that the run hands on, once it can be ended; before that no byte is printed.
-fn block(held: Taken, at: u64, line: &[u8]) {
-    let ended = held.run.end();
-    let refusal = ended.refusal;
-    if refusal.number() == 0 {
-        return print(held, at, line);
+// The block that a run hands on, once it can be ended; before that no byte is printed.
+fn print_past(past: Channel, refusal: Refusal, at: u64, line: &[u8]) {
+    if refusal.number() != 0 {
+        return not_printed(at, refusal, line);
     }
-    not_printed(at, refusal, line);
+    let mut whole = answer::dotted();
+    let text = print_block(&mut whole, past);
+    let n = script::lent(line, answer::length_of(text));
+    let mut buf = answer::dotted();
+    let lent = &mut buf[..n];
+    let told = print_block(lent, past);
+    answer::showed_whole(at, told, lent);
+}
+
+fn block(run: Run, at: u64, line: &[u8]) {
+    let ended = run.end();
+    let refusal = ended.refusal;
+    print_past(ended.past, refusal, at, line);
 }
 
 // The call of a line, which is the `at`-th of the script. What is held from call to call is what the last taking answered, with the run at hand in it;
@@ -238,12 +244,14 @@ fn called(mut held: Taken, at: u64, line: &[u8]) -> Taken {
         b'B' | b'S' => held.run = repeated(held.run, at, line),
         b'K' => {
             held = held.run.take();
-            show_taken(held, at);
+            let refusal = held.refusal;
+            show_taken(at, refusal, held.quarter, held.sheets);
         }
         b'E' => held.run = end(held.run, at),
         b'H' => heading(held.run, at),
-        b'P' => block(held, at, line),
-        _ => print(held, at, line),
+        b'P' => block(held.run, at, line),
+        b'Q' => print_sheets(held.sheets, at, line),
+        _ => print_numbers(at, line),
     }
     held
 }
@@ -264,9 +272,14 @@ fn line_end(script: &[u8], from: usize) -> usize
     i
 }
 
+// A header with nothing in it, which is refused.
+fn no_header() -> Header {
+    header_of(b"")
+}
+
 // Before the first opening the run is what a refused one gives, and its taking has nothing in it.
 fn at_first() -> Taken {
-    let opened = Run::open(header_of(b""));
+    let opened = Run::open(no_header());
     opened.run.take()
 }
 

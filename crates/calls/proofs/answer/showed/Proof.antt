@@ -10,6 +10,9 @@ use Rattle.calls.proofs.answer.showed.Tie as tie
 length-of-requires : tie.Need-length-of-requires
 length-of-requires c κs = search needs
 
+array-share-prefix-out : tie.Need-array-share-prefix-out
+array-share-prefix-out c = search needs
+
 slice-aggregate-write-all : tie.Need-slice-aggregate-write-all
 slice-aggregate-write-all c = sym (length-take-le _ _ (omega arith))
 
@@ -24,4 +27,4 @@ returns-2 c = search needs
 
 pub showed-spec : {M : Type 1} → statement M
 showed-spec =
-    tie.close (tie.spec length-of-requires slice-aggregate-write-all write-all-requires returns returns-2)
+    tie.close (tie.spec length-of-requires array-share-prefix-out slice-aggregate-write-all write-all-requires returns returns-2)
