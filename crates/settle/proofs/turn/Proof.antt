@@ -35,7 +35,10 @@ fed-requires : tie.Need-fed-requires
 fed-requires c κs = search needs
 
 left-over-requires : tie.Need-left-over-requires
-left-over-requires c κs = (few _ _ _ (c .before .before .before .before .before .before .before .before .before .before .pre .0) (c .before .before .before .before .before .before .fed-length .ensures .0) .0, c .before .before .before .before .before .before .before .before .before .before .pre .0)
+left-over-requires c κs =
+    let at-fed-length = c .before .before .before .before .before .before in
+    let start = at-fed-length .before .before .before .before in
+    (few _ _ _ (start .pre .0) (at-fed-length .fed-length .ensures .0) .0, start .pre .0)
 
 same-length : tie.Need-same-length
 same-length c = search needs
