@@ -8,7 +8,9 @@
 //! output, with a number for each COMMAND, parted by tabs: the nanoseconds from
 //! the start of the process to its end in the best of ROUNDS, in each of which
 //! all run on all files, so that a slow moment of the machine meets all; or the
-//! most memory that it had at a time, in KiB.
+//! most memory that it had at a time, in KiB. Each round begins with another
+//! COMMAND: the first one finds the file in no cache of the processor, and the
+//! others do.
 
 use std::env;
 use std::error::Error;
@@ -48,13 +50,14 @@ fn main() -> ExitCode {
 
 fn times(rounds: u32, commands: &[String], files: &[String]) -> Result<(), Box<dyn Error>> {
     let mut best = vec![vec![u128::MAX; commands.len()]; files.len()];
-    for _ in 0..rounds {
+    for round in 0..rounds as usize {
         for (file, best) in files.iter().zip(&mut best) {
-            for (command, best) in commands.iter().zip(best) {
-                let mut process = process(command, file)?;
+            for place in 0..commands.len() {
+                let turn = (round + place) % commands.len();
+                let mut process = process(&commands[turn], file)?;
                 let start = Instant::now();
                 wait(&mut process)?;
-                *best = (*best).min(start.elapsed().as_nanos());
+                best[turn] = best[turn].min(start.elapsed().as_nanos());
             }
         }
     }
