@@ -14,7 +14,7 @@ ghost use lib.ListN.{length, take, drop};
 ghost use Rattle.sheets.specs.Buffer.{bufferLength, lengthOf};
 ghost use Rattle.feed.specs.Feeding.{Through};
 
-// So much is read at once: each page of it costs as much as some fifty samples, and each reading as much as some hundred.
+// So much is read at once: a larger block has more pages to be made, and a smaller one is read more often.
 const BLOCK: usize = 65536;
 
 // The reader after some input, whether all that it printed could be written out, and how many bytes are left, which were read and not fed.
