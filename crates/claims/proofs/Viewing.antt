@@ -8,7 +8,7 @@ use native.Mathlib.Omega.{arith}
 use native.Mathlib.Numerals.{add-one}
 use native.Mathlib.Nat.{mod-add-mod, zero-add, add-zero}
 use borrow.Author.Count.{below-none, below-more}
-use borrow.Author.Tests.{eqb-true, eq-eqb}
+use borrow.Author.Tests.{eqb-true, eq-eqb, ltb-true, ltb-false, lt-ltb, le-ltb}
 use mir.Syntax.{w32}
 use mir.Val.{SFits}
 use lib.Dec.{eqb, ltb}
@@ -152,6 +152,24 @@ busy-end (x ∷ l) (suc i) p h =
 falls : Part → Bool
 falls p = ltb (amountOf Kept p) (amountOf Inner p)
 
+-- what is kept, the smaller of the inner bound and what is covered, falls short where what is covered does, and is the same there
+least-falls : (inner covered : ℕ) (b : Bool) → ltb covered inner ≡ b → b ≡ ltb (leastOf inner covered) inner
+unfolding leastOf
+least-falls inner covered true e = sym (lt-ltb (leastOf inner covered) inner (omega (arith, ltb-true covered inner e)))
+least-falls inner covered false e = sym (le-ltb (leastOf inner covered) inner (omega (arith, ltb-false covered inner e)))
+
+least-covered : (inner covered : ℕ) → ltb (leastOf inner covered) inner ≡ true → covered ≡ leastOf inner covered
+unfolding leastOf
+least-covered inner covered e = omega (arith, ltb-true (leastOf inner covered) inner e)
+
+covered-falls : (p : Part) → ltb (amountOf Covered p) (amountOf Inner p) ≡ falls p
+unfolding falls
+covered-falls p = least-falls (amountOf Inner p) (amountOf Covered p) (ltb (amountOf Covered p) (amountOf Inner p)) refl
+
+covered-kept : (p : Part) → falls p ≡ true → amountOf Covered p ≡ amountOf Kept p
+unfolding falls
+covered-kept p = least-covered (amountOf Inner p) (amountOf Covered p)
+
 shorts-end : (ps : List Part) (p : Part) → shortsOf (ps ++ (p ∷ [])) ≡ shortsOf ps ++ cond (falls p) (p ∷ []) []
 unfolding shortsOf falls
 shorts-end [] p = refl
@@ -168,17 +186,17 @@ write-one : (f : Part → ℕ) (ps : List Part) (p : Part) (l : List ℕ) (count
 write-one f ps p l count h e = rw (add-one, take-suc-set l count (f p) h, e, each-end f ps p)
 
 -- a power of a part that falls short is written down, and another is written over
-write-short : (f : Part → ℕ) (ps : List Part) (p : Part) (l : List ℕ) (short : ℕ) (b : Bool) → short < length l → take short l ≡ each f ps
-    → take (short + cond b 1 0) (set l short (f p)) ≡ each f (ps ++ cond b (p ∷ []) [])
-write-short f ps p l short true h e = write-one f ps p l short h e
-write-short f ps p l short false h e = rw (add-zero short, append-nil, take-set-le short l short (f p) (omega arith)) e
+write-short : (f : Part → ℕ) (ps : List Part) (p : Part) (v : ℕ) (l : List ℕ) (short : ℕ) (b : Bool) → (b ≡ true → v ≡ f p) → short < length l
+    → take short l ≡ each f ps → take (short + cond b 1 0) (set l short v) ≡ each f (ps ++ cond b (p ∷ []) [])
+write-short f ps p v l short true same h e = rw (same refl) (write-one f ps p l short h e)
+write-short f ps p v l short false same h e = rw (add-zero short, append-nil, take-set-le short l short v (omega arith)) e
 
 fall-one : (b : Bool) → cond b 1 0 ≤ 1
 fall-one true = omega arith
 fall-one false = omega arith
 
-pub falls-one : (kept inner : ℕ) → fallsOf kept inner ≤ 1
-falls-one kept inner = fall-one (ltb kept inner)
+pub falls-one : (covered inner : ℕ) → fallsOf covered inner ≤ 1
+falls-one covered inner = fall-one (ltb covered inner)
 
 add-up : (f : Part → ℕ) (ps : List Part) (p : Part) (sum : ℕ) → sum ≡ sumOf (each f ps) % 2 ^ 64
     → (sum + f p) % 2 ^ 64 ≡ sumOf (each f (ps ++ (p ∷ []))) % 2 ^ 64
@@ -194,18 +212,22 @@ module _ (asked accepted required inner kept : List ℕ) where
       (w : Written ps asked accepted required inner kept count short surplus under) where
     written-more : Written (ps ++ (p ∷ [])) (set asked count (amountOf Setpoint p))
         (set accepted count (amountOf Acceptance p)) (set required count (amountOf Floor p)) (set inner short (amountOf Inner p))
-        (set kept short (amountOf Kept p)) (count + 1) (short + fallsOf (amountOf Kept p) (amountOf Inner p)) ((surplus + amountOf Surplus p) % 2 ^ 64) ((under + amountOf UnderDelivery p) % 2 ^ 64)
-    unfolding falls
+        (set kept short (amountOf Covered p)) (count + 1) (short + fallsOf (amountOf Covered p) (amountOf Inner p))
+        ((surplus + amountOf Surplus p) % 2 ^ 64) ((under + amountOf UnderDelivery p) % 2 ^ 64)
     written-more =
         let spot : short < 900 = omega (arith, w .fewer) in
         record {
           counted = rw (length-append ps (p ∷ []), w .counted);
-          fewer = omega (arith, w .fewer, fall-one (falls p));
+          fewer = omega (arith, w .fewer, falls-one (amountOf Covered p) (amountOf Inner p));
           asked = write-one (amountOf Setpoint) ps p asked count (omega (arith, room .asked)) (w .asked);
           accepted = write-one (amountOf Acceptance) ps p accepted count (omega (arith, room .accepted)) (w .accepted);
           required = write-one (amountOf Floor) ps p required count (omega (arith, room .required)) (w .required);
-          inner = rw (shorts-end ps p) (write-short (amountOf Inner) (shortsOf ps) p inner short (falls p) (omega (arith, spot, room .inner)) (w .inner));
-          kept = rw (shorts-end ps p) (write-short (amountOf Kept) (shortsOf ps) p kept short (falls p) (omega (arith, spot, room .kept)) (w .kept));
+          inner =
+              rw (covered-falls p, shorts-end ps p)
+              (write-short (amountOf Inner) (shortsOf ps) p (amountOf Inner p) inner short (falls p) (λ f. refl) (omega (arith, spot, room .inner)) (w .inner));
+          kept =
+              rw (covered-falls p, shorts-end ps p)
+              (write-short (amountOf Kept) (shortsOf ps) p (amountOf Covered p) kept short (falls p) (covered-kept p) (omega (arith, spot, room .kept)) (w .kept));
           surplus = add-up (amountOf Surplus) ps p surplus (w .surplus);
           under = add-up (amountOf UnderDelivery) ps p under (w .under);
         }
@@ -258,8 +280,8 @@ module _ (d : Direction) (x : Samples) (asked accepted required inner kept : Lis
 
     pub viewed-more : length (x .setpoints) ≤ 900 → idleOf p ≡ false
         → Viewed d x (set asked count (amountOf Setpoint p)) (set accepted count (amountOf Acceptance p))
-        (set required count (amountOf Floor p)) (set inner short (amountOf Inner p)) (set kept short (amountOf Kept p)) (count + 1)
-        (short + fallsOf (amountOf Kept p) (amountOf Inner p)) ((surplus + amountOf Surplus p) % 2 ^ 64) ((under + amountOf UnderDelivery p) % 2 ^ 64) (i + 1)
+        (set required count (amountOf Floor p)) (set inner short (amountOf Inner p)) (set kept short (amountOf Covered p)) (count + 1)
+        (short + fallsOf (amountOf Covered p) (amountOf Inner p)) ((surplus + amountOf Surplus p) % 2 ^ 64) ((under + amountOf UnderDelivery p) % 2 ^ 64) (i + 1)
     viewed-more few e =
         let fits : count < 900 = omega (arith, v .few) in
         record {

@@ -17,7 +17,7 @@ use Rattle.channel.specs.declared.Channel.{Channel}
 use Rattle.vocabulary.specs.declared.direction.Direction.{Direction}
 use Rattle.vocabulary.specs.declared.direction.Direction.the-variants.{Positive, Negative}
 use Rattle.values.specs.declared.value.Quantity.{Quantity}
-use Rattle.values.specs.declared.value.Quantity.the-variants.{Setpoint, Actual, Acceptance, Surplus, UnderDelivery, Inner, Floor, Kept}
+use Rattle.values.specs.declared.value.Quantity.the-variants.{Setpoint, Actual, Acceptance, Surplus, UnderDelivery, Inner, Floor, Covered, Kept}
 use Rattle.values.specs.declared.part.Part.{Part}
 use Rattle.values.specs.Part.{partOf, amountOf}
 use Rattle.contracts.specs.declared.terms.Terms.{Terms}
@@ -57,11 +57,11 @@ unfoldable pub busyOf : List Part → List Part
 busyOf [] = []
 busyOf (p ∷ ps) = cond (idleOf p) (busyOf ps) (p ∷ busyOf ps)
 
--- 1 where what is kept falls short of the inner bound
+-- 1 where what is covered falls short of the inner bound
 abbrev pub fallsOf : ℕ → ℕ → ℕ
-fallsOf kept inner = cond (ltb kept inner) 1 0
+fallsOf covered inner = cond (ltb covered inner) 1 0
 
--- the parts on which it does: on the others both have the same slices, and nothing is short (proofs/Shortfalls)
+-- the parts on which it does, and so what is kept: on the others both have the same slices, and nothing is short (proofs/Shortfalls)
 unfoldable pub shortsOf : List Part → List Part
 shortsOf [] = []
 shortsOf (p ∷ ps) = cond (ltb (amountOf Kept p) (amountOf Inner p)) (p ∷ shortsOf ps) (shortsOf ps)
@@ -75,7 +75,7 @@ amountsOf p =
       «under_delivery» = amountOf UnderDelivery p;
       inner = amountOf Inner p;
       floor = amountOf Floor p;
-      kept = amountOf Kept p;
+      covered = amountOf Covered p;
     }
 
 -- ---- the sums

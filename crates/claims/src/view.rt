@@ -25,7 +25,7 @@ pub struct Amounts {
     pub under_delivery: u64,
     pub inner: u64,
     pub floor: u64,
-    pub kept: u64,
+    pub covered: u64,
 }
 
 // How many parts are not idle, how many fall short of the inner bound, and the sums of those quantities that no contract has a slice of.
@@ -86,15 +86,15 @@ fn amounts_of(part: Part) -> Amounts
         under_delivery: amount(Quantity::UnderDelivery, part).0,
         inner: amount(Quantity::Inner, part).0,
         floor: amount(Quantity::Floor, part).0,
-        kept: amount(Quantity::Kept, part).0,
+        covered: amount(Quantity::Covered, part).0,
     }
 }
 
-// 1 where what is kept falls short of the inner bound, and else 0: a number to add, so that the processor has no turn to guess.
-fn falls_short(kept: u64, inner: u64) -> usize
-    ensures { λ r. ⌜ r ≡ fallsOf kept inner ⌝ }
+// 1 where what is covered falls short of the inner bound, and else 0: a number to add, so that the processor has no turn to guess.
+fn falls_short(covered: u64, inner: u64) -> usize
+    ensures { λ r. ⌜ r ≡ fallsOf covered inner ⌝ }
 {
-    if kept < inner {
+    if covered < inner {
         return 1;
     }
     0
@@ -119,6 +119,7 @@ fn faced(
 
 // Each other quantity of the samples that has a slice, as a series of its own. A sample that is idle on the direction's side is left out; and one that does
 // not fall short is written over in the series of the inner bound and of what is kept, of which only the difference counts.
+// Of one that does, all that is covered is kept, so that what is kept need not be worked out.
 pub(crate) fn viewed(
     direction: Direction,
     setpoints: &[i32],
@@ -152,8 +153,8 @@ pub(crate) fn viewed(
         accepted[count] = amounts.acceptance;
         required[count] = amounts.floor;
         inner[short] = amounts.inner;
-        kept[short] = amounts.kept;
-        short += falls_short(amounts.kept, amounts.inner);
+        kept[short] = amounts.covered;
+        short += falls_short(amounts.covered, amounts.inner);
         surplus = wrapping_add_u64(surplus, amounts.surplus);
         under_delivery = wrapping_add_u64(under_delivery, amounts.under_delivery);
         count += 1;

@@ -103,7 +103,7 @@ falls-short-requires c κs = tt
 add-short : tie.Need-add-short Inv-loop μ-loop
 add-short c =
     let amounts = c .before .amounts-of .result in
-    let one : c .falls-short .result ≤ 1 = rw (c .falls-short .ensures) (falls-one (amounts .kept) (amounts .inner)) in
+    let one : c .falls-short .result ≤ 1 = rw (c .falls-short .ensures) (falls-one (amounts .covered) (amounts .inner)) in
     omega (arith, spot-short (c .before), one)
 
 wrapping-add-u64-requires : tie.Need-wrapping-add-u64-requires Inv-loop μ-loop
