@@ -9,8 +9,7 @@ use Rattle.text.specs.declared.desk.Desk.{Desk}
 use Rattle.text.specs.declared.desk.Told.{Told}
 use Rattle.text.proofs.desk.Desk.new.Reads as new
 use Rattle.text.proofs.desk.Desk.is_closed.Reads as is-closed
-use Rattle.text.proofs.desk.Desk.room.Reads as room
-use Rattle.text.proofs.desk.Desk.samples.Reads as samples
+use Rattle.text.proofs.desk.samples.Reads as samples
 use Rattle.text.proofs.desk.Desk.line.Reads as line
 use Rattle.text.proofs.desk.Desk.finish.Reads as finish
 
@@ -23,11 +22,8 @@ new-single κs a r r′ x x′ p q = p ∙ sym q
 is-closed-single : Single is-closed.Post
 is-closed-single κs a r r′ x x′ p q = p ∙ sym q
 
-room-single : Single room.Post
-room-single κs a r r′ x x′ p q = p ∙ sym q
-
 samples-single : SingleBytes (λ κs x. now (x .1 .1 .1 .0)) samples.Post
-samples-single κs a r r′ x x′ p q = told-single p q
+samples-single κs a r r′ x x′ p q = (p .answer ∙ sym (q .answer), p .bytes ∙ sym (q .bytes))
 
 line-single : SingleBytes (λ κs x. now (x .1 .1 .1 .0)) line.Post
 line-single κs a r r′ x x′ p q = told-single p q

@@ -1,11 +1,10 @@
 -- A stretch of samples at the desk comes to the same as one sample line after the other.
-use Prim.Native.Nat.{ℕ, suc, _+_, _%_, _^_, _≤_}
+use Prim.Native.Nat.{ℕ, suc, _+_, _-_, _%_, _^_, _≤_}
 use mathlib.Core.Path.{_≡_, refl, sym, ap, subst, _∙_}
-use mathlib.Core.Bool.{true, false, cond}
+use mathlib.Core.Bool.{Bool, true, false, cond}
 use mathlib.Core.List.{List, [], _∷_}
 use native.Mathlib.Omega.{arith}
-use lib.ListN.{length, take, drop}
-use lib.Seq.{sets, sets-eq, take-at}
+use lib.ListN.{length}
 use lib.IntN.{ℤ}
 use Rattle.vocabulary.specs.declared.refusal.Refusal.{Refusal}
 use Rattle.vocabulary.specs.declared.refusal.Refusal.the-variants.{WrongMoment}
@@ -15,16 +14,20 @@ use Rattle.vocabulary.specs.declared.sample.Sample.{Sample}
 use Rattle.lines.specs.Turns.{quiet}
 use Rattle.reading.specs.Line.{lineOf}
 use Rattle.reading.specs.declared.Line.the-variants as L
-use Rattle.samples.specs.Stretch.{frontSamples, setpointsOf, actualsOf}
+use Rattle.samples.specs.Stretch.{frontSamples, setpointsOf, actualsOf, Reads}
+use Rattle.samples.specs.declared.Stretch.{Stretch}
 use Rattle.samples.proofs.Meaning.{begins}
 use Rattle.samples.proofs.StretchFed.{Quietly, one, more}
 use Rattle.settlement.specs.declared.run.Run.{Run}
-use Rattle.settlement.specs.Run.{sampled, sampledOf}
+use Rattle.settlement.specs.Run.{sampled, sampledOf, takenOf}
 use Rattle.records.specs.Tape.{samplesIn}
-use Rattle.settlement.specs.Many.{roomOf}
+use Rattle.settlement.specs.Many.{roomOf, manyOf}
+use Rattle.settlement.specs.Bare.{bareOf, wholeOf, withMore}
+use Rattle.settlement.specs.declared.bare.Bare.{Bare}
+use Rattle.settlement.proofs.BareLaws.{room-few, taken-whole, put-taken}
 use Rattle.settlement.proofs.Many as many
 use Rattle.settlement.proofs.Many.{Ranged, withAll, room-left, none-refused, all-taken}
-use Rattle.text.specs.Desk.{Turn, deskAt, refusedTurn, quarterTurn, sampleTurn, samplesTurn, roomAt, firstTurn, nextTurn, turnAt, lineTurn}
+use Rattle.text.specs.Desk.{Turn, deskAt, refusedTurn, takenText, quarterTurn, sampleTurn, samplesTurn, roomAt, firstTurn, nextTurn, turnAt, lineTurn}
 use Rattle.text.proofs.Telling.{waits}
 use Rattle.text.specs.declared.desk.Stage.{Stage}
 use Rattle.text.specs.declared.desk.Stage.the-variants.{Empty, Open, Closed}
@@ -86,6 +89,15 @@ open-there Empty run m h = absurd (omega arith)
 open-there Open run m h = (refl, h)
 open-there Closed run m h = absurd (omega arith)
 
+-- and no more than the run has, nor than there are places
+pub room-most : (stage : Stage) (run : Run) → roomAt stage run ≤ roomOf run
+room-most Empty run = omega arith
+room-most Open run = omega arith
+room-most Closed run = omega arith
+
+pub room-within : (stage : Stage) (run : Run) → roomAt stage run ≤ 900 - run .tape .filled
+room-within stage run = omega (arith, room-most stage run, room-few run)
+
 -- ---- the samples of a stretch
 
 pub ranged : (n : ℕ) (ls : List (List ℕ)) (ss : List Sample) → frontSamples n ls ≡ ss → Ranged ss
@@ -109,16 +121,27 @@ unfolding samplesIn setpointsOf actualsOf
 in-both [] = refl
 in-both (s ∷ ss) = ap (λ (l : List Sample). s ∷ l) (in-both ss)
 
--- what stands at the start of a series after it was stored there
-stored-first : (xs zs : List ℤ) (n : ℕ) → length xs ≡ n → n ≤ length zs → take n (sets zs 0 xs) ≡ xs
-stored-first xs zs n e h =
-    let few : 0 + length xs ≤ length zs = omega arith in
-    ap (take n) (sets-eq xs zs 0 few) ∙ take-at xs (drop (0 + length xs) zs) n e
+-- put in their places they are those that are taken one by one
+pub put-there : (bare : Bare) {lines : List (List ℕ)} {most : ℕ} {sp ac sp′ ac′ : List ℤ} {read : Stretch} → Reads lines (bare .filled) most sp ac sp′ ac′ read
+    → read .samples ≤ roomOf (wholeOf bare sp ac) → manyOf (wholeOf bare sp ac) (frontSamples most lines) .run ≡ wholeOf (withMore bare (read .samples)) sp′ ac′
+put-there bare {lines} {most} {sp} {ac} reads few =
+    let ss = frontSamples most lines in
+    let same : length (setpointsOf ss) ≡ length (actualsOf ss) = length-setpoints ss ∙ sym (length-actuals ss) in
+    let all = subst Ranged (sym (in-both ss)) (ranged most lines ss refl) in
+    let room : length (samplesIn (setpointsOf ss) (actualsOf ss)) ≤ roomOf (wholeOf bare sp ac) = omega (arith, few, reads .samples, ap length (in-both ss)) in
+    let counted : length (setpointsOf ss) ≡ _ = length-setpoints ss ∙ sym (reads .samples) in
+    ap (λ (l : List Sample). manyOf (wholeOf bare sp ac) l .run) (sym (in-both ss))
+    ∙ put-taken bare sp ac (setpointsOf ss) (actualsOf ss) same all room
+    ∙ (λ i. wholeOf (withMore bare (counted i)) (sym (reads .setpoints) i) (sym (reads .actuals) i))
 
--- the two series give the samples back
-pub given-back : (ss : List Sample) (sp ac : List ℤ) (n : ℕ) → n ≡ length ss → n ≤ length sp → n ≤ length ac
-    → samplesIn (take n (sets sp 0 (setpointsOf ss))) (take n (sets ac 0 (actualsOf ss))) ≡ ss
-given-back ss sp ac n e p q =
-    ap (λ (l : List ℤ). samplesIn l (take n (sets ac 0 (actualsOf ss)))) (stored-first (setpointsOf ss) sp n (length-setpoints ss ∙ sym e) p)
-    ∙ ap (samplesIn (setpointsOf ss)) (stored-first (actualsOf ss) ac n (length-actuals ss ∙ sym e) q)
-    ∙ in-both ss
+-- a quarter hour that is taken leaves them where they are
+pub quarter-whole : (bare : Bare) (sp ac : List ℤ) → deskAt Open (wholeOf (bareOf (quarterTurn (wholeOf bare sp ac) .desk .run)) sp ac) ≡ quarterTurn (wholeOf bare sp ac) .desk
+unfolding quarterTurn
+quarter-whole bare sp ac = go (accepted (takenOf run .refusal))
+  where
+    run : Run
+    run = wholeOf bare sp ac
+
+    go : (b : Bool) → let turn = cond b (record { desk = deskAt Open (takenOf run .run); text = takenText (takenOf run) }) (quiet (deskAt Open run)) in deskAt Open (wholeOf (bareOf (turn .desk .run)) sp ac) ≡ turn .desk
+    go true = ap (deskAt Open) (taken-whole run)
+    go false = refl

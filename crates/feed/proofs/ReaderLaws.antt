@@ -28,24 +28,28 @@ use Rattle.samples.specs.Stretch as series
 use Rattle.samples.specs.declared.Stretch.{Stretch}
 use Rattle.samples.proofs.Meaning.{begins, bytes-within, some-bytes, at-most}
 use Rattle.samples.proofs.StretchFed.{by-stretch}
-use Rattle.records.specs.Tape.{samplesIn}
+use Rattle.settlement.specs.Bare.{bareOf, wholeOf, withMore}
+use Rattle.settlement.specs.declared.bare.Bare.{Bare}
+use Rattle.text.specs.Serving.{Settles}
+use Rattle.text.specs.declared.desk.BareTold.{BareTold}
 use Rattle.settlement.specs.Many.{roomOf}
 use Rattle.sheets.specs.Buffer.{bufferLength, lengthOf, over}
 use Rattle.sheets.proofs.Yielding as yields
 use Rattle.sheets.proofs.Yielding.{over-length, long-enough}
 use Rattle.sheets.specs.declared.Printed.{Printed}
 use Rattle.sheets.specs.declared.Printed.the-variants.{Length, TooShort}
-use Rattle.text.specs.Desk.{Turn, Tells, answerOf, deskAt, lineTurn, finishTurn, samplesTurn, roomAt}
+use Rattle.text.specs.Desk.{Turn, Tells, answerOf, deskAt, lineTurn, finishTurn, quarterTurn, samplesTurn, roomAt, closedAt}
 use Rattle.text.specs.declared.desk.Stage.the-variants.{Open}
 use Rattle.text.specs.declared.desk.Desk.{Desk}
 use Rattle.text.specs.declared.desk.Told.{Told}
 use Rattle.feed.specs.Reader.{closedOf, feedOf, finishOf, readerOf, unfedOf, fedOf, Yields}
-use Rattle.feed.specs.Steps.{Finds, Stretches, lineFound, afterOf, turnBy, leftBy, Moves, goesOn, Reads, fedBy, endedBy}
+use Rattle.feed.specs.Steps.{readerWith, deskWith, Finds, Stretches, lineFound, afterOf, turnBy, Steps, Left, leftBy, Moves, goesOn, Reads, fedBy, endedBy}
 use Rattle.feed.specs.declared.Reader.{Reader}
+use Rattle.feed.specs.declared.BareDesk.{BareDesk}
+use Rattle.feed.specs.declared.Stepped.{Stepped}
 use Rattle.feed.specs.declared.Found.{Found}
-use Rattle.feed.specs.declared.Moved.{Moved}
 use Rattle.feed.specs.declared.Fed.{Fed}
-use Rattle.feed.proofs.DeskLaws.{sampleLine, says, quietly, open-there, ranged, given-back}
+use Rattle.feed.proofs.DeskLaws.{sampleLine, says, quietly, open-there, room-most, room-within, ranged, put-there, quarter-whole}
 
 -- ---- what the desk told, in a buffer that is long enough
 
@@ -53,7 +57,7 @@ pub record Told-whole (out : List ℕ) (turn : Turn) (told : Told) (out′ : Lis
   pub desk : told .desk ≡ turn .desk
   pub printed : told .printed ≡ Length (length (turn .text))
   pub bytes : out′ ≡ over (turn .text) out
-  pub room : length (turn .text) ≤ bufferLength
+  pub room : length (turn .text) ≤ length out
 
 pub told-whole : {out out′ : List ℕ} {before : Desk} {turn : Turn} {told : Told} → bufferLength ≤ length out → Tells out before turn told out′ → Told-whole out turn told out′
 told-whole {out} {out′} {before} {turn} {told} h t =
@@ -65,7 +69,7 @@ told-whole {out} {out′} {before} {turn} {told} h t =
       desk = ap (λ (x : Told). x .desk) a;
       printed = ap (λ (x : Told). x .printed) a;
       bytes = t .prints .bytes ∙ ap (λ (b : Bool). cond b (over (turn .text) out) out) room;
-      room = t .room;
+      room = few;
     }
 
 -- where nothing is said
@@ -99,7 +103,7 @@ abbrev pub thenOf : Reader → List ℕ → ℕ → List ℕ → Outcome Desk
 thenOf reader text n rest = onTurn (reader .gatherer) (turnOf reader text) n (feedOf reader rest)
 
 -- what a step leaves, by what was found and what the desk told
-abbrev pub movedBy : Found → Told → Moved
+abbrev pub movedBy : Found → Told → Left
 movedBy f told = record { gatherer = afterOf f; desk = told .desk; used = f .used; printed = lengthOf (told .printed) }
 
 -- ---- A LINE, OR THE REST OF THE BLOCK
@@ -173,7 +177,7 @@ module _ (reader : Reader) (block : List ℕ) (at : ℕ) (out : List ℕ) (o : c
       }
 
   -- either
-  abbrev left-with : Told → Bool → Moved
+  abbrev left-with : Told → Bool → Left
   left-with told b = record { gatherer = cond b (freshOf (part .gatherer)) (part .gatherer); desk = told .desk; used = part .used; printed = lengthOf (told .printed) }
 
   by-complete : {told : Told} {out′ : List ℕ} (b : Bool) → part .complete ≡ b → Told-whole out (cond b turn (quiet (reader .desk))) told out′ → Moves reader block at out (left-with told b) out′
@@ -186,37 +190,24 @@ module _ (reader : Reader) (block : List ℕ) (at : ℕ) (out : List ℕ) (o : c
 -- ---- A STRETCH
 
 module _ (reader : Reader) (block : List ℕ) (at : ℕ) (out : List ℕ) (h : at < length block) where
-  module _ {room : ℕ} {sp ac sp′ ac′ : List ℤ} {read : Stretch} (there : room ≡ roomAt (reader .desk .stage) (reader .desk .run))
-      (reads : series.Reads (linesAt block at) 0 (mostOf 0 room sp ac) sp ac sp′ ac′ read) where
+  module _ {filled room : ℕ} {sp ac sp′ ac′ : List ℤ} {read : Stretch} (there : room ≡ roomAt (reader .desk .stage) (reader .desk .run))
+      (reads : Stretched block at filled (filled + room) sp ac sp′ ac′ read) where
     abbrev lines-there : List (List ℕ)
     lines-there = linesAt block at
 
     abbrev most : ℕ
-    most = mostOf 0 room sp ac
+    most = mostOf filled (filled + room) sp ac
 
-    most-fits : (most ≤ room) × ((most ≤ length sp) × (most ≤ length ac))
+    most-fits : most ≤ room
     unfolding mostOf leastOf
-    most-fits = (omega arith, (omega arith, omega arith))
+    most-fits = omega arith
+
+    abbrev given : List Sample
+    given = frontSamples most lines-there
 
     -- no more than there is room for
-    pub samples-fit : (read .samples ≤ length sp) × (read .samples ≤ length ac)
-    samples-fit = let m = at-most most lines-there in (omega (arith, reads .samples, most-fits .1 .0), omega (arith, reads .samples, most-fits .1 .1))
-
-    pub samples-in : (read .samples ≤ length sp′) × (read .samples ≤ length ac′)
-    samples-in =
-        let p : length sp′ ≡ length sp = ap length (reads .setpoints) ∙ length-sets sp 0 (setpointsOf (frontSamples most lines-there)) in
-        let q : length ac′ ≡ length ac = ap length (reads .actuals) ∙ length-sets ac 0 (actualsOf (frontSamples most lines-there)) in
-        (omega (arith, samples-fit .0), omega (arith, samples-fit .1))
-
-    -- what the desk makes of them
-    abbrev given : List Sample
-    given = samplesIn (take (read .samples) sp′) (take (read .samples) ac′)
-
-    given-is : given ≡ frontSamples most lines-there
-    given-is =
-        ap (λ (l : List ℤ). samplesIn (take (read .samples) l) (take (read .samples) ac′)) (reads .setpoints)
-        ∙ ap (λ (l : List ℤ). samplesIn (take (read .samples) (sets sp 0 (setpointsOf (frontSamples most lines-there)))) (take (read .samples) l)) (reads .actuals)
-        ∙ given-back (frontSamples most lines-there) sp ac (read .samples) (reads .samples) (samples-fit .0) (samples-fit .1)
+    pub samples-fit : read .samples ≤ room
+    samples-fit = omega (arith, reads .samples, at-most most lines-there, most-fits)
 
     module _ {told : Told} {out′ : List ℕ} {g : Gatherer} (start : Start (reader .gatherer)) (some : 0 < read .samples) (gone : g ≡ pastOf (read .samples) (reader .gatherer))
         (t : Told-whole out (samplesTurn (reader .desk) given) told out′) where
@@ -228,7 +219,7 @@ module _ (reader : Reader) (block : List ℕ) (at : ℕ) (out : List ℕ) (h : a
 
       module _ (s : Sample) (ss : List Sample) (e : frontSamples most lines-there ≡ s ∷ ss) where
         few : suc (length ss) ≤ roomAt (reader .desk .stage) (reader .desk .run)
-        few = omega (arith, ap length e, at-most most lines-there, most-fits .0, there)
+        few = omega (arith, ap length e, at-most most lines-there, most-fits, there)
 
         opens : (reader .desk .stage ≡ Open) × (suc (length ss) ≤ roomOf (reader .desk .run))
         opens = open-there (reader .desk .stage) (reader .desk .run) (length ss) few
@@ -238,7 +229,7 @@ module _ (reader : Reader) (block : List ℕ) (at : ℕ) (out : List ℕ) (h : a
 
         same-turn : samplesTurn (deskAt Open (reader .desk .run)) (s ∷ ss) ≡ turnOf after text
         unfolding samplesTurn
-        same-turn = ap (samplesTurn (reader .desk)) (sym (given-is ∙ e)) ∙ ap (λ (d : Desk). record { desk = d; text = text }) (sym (t .desk))
+        same-turn = ap (samplesTurn (reader .desk)) (sym e) ∙ ap (λ (d : Desk). record { desk = d; text = text }) (sym (t .desk))
 
         abbrev bytes : ℕ
         bytes = bytesOf (take (length (s ∷ ss)) lines-there)
@@ -285,87 +276,157 @@ module _ (reader : Reader) (block : List ℕ) (at : ℕ) (out : List ℕ) (h : a
 
 -- ---- WHAT STANDS NEXT
 
-pub found-line : {g : Gatherer} {block : List ℕ} {at room : ℕ} {sp ac sp′ ac′ : List ℤ} {r : Found} → r ≡ lineFound (gatheredOf g (drop at block)) → length sp′ ≡ length sp → length ac′ ≡ length ac
-    → Finds g block at room sp ac sp′ ac′ r
-found-line q s a = record { line = λ e. q; stretch = λ p. absurd (omega (arith, p, ap (λ (f : Found). f .samples) q)); setpoints = s; actuals = a }
+pub found-line : {g : Gatherer} {block : List ℕ} {at filled room : ℕ} {sp ac sp′ ac′ : List ℤ} {r : Found} → r ≡ lineFound (gatheredOf g (drop at block)) → sp′ ≡ sp → ac′ ≡ ac
+    → Finds g block at filled room sp ac sp′ ac′ r
+found-line q s a = record { line = λ e. (q, (s, a)); stretch = λ p. absurd (omega (arith, p, ap (λ (f : Found). f .samples) q)) }
 
--- nothing but places of the arrays was written
-pub same-arrays : {lines : List (List ℕ)} {filled most : ℕ} {sp ac sp′ ac′ : List ℤ} {read : Stretch} → series.Reads lines filled most sp ac sp′ ac′ read → (length sp′ ≡ length sp)
-    × (length ac′ ≡ length ac)
-same-arrays {lines} {filled} {most} {sp} {ac} reads = (
-  ap length (reads .setpoints) ∙ length-sets sp filled (setpointsOf (frontSamples most lines)),
-  ap length (reads .actuals) ∙ length-sets ac filled (actualsOf (frontSamples most lines)),
-)
+-- where there is no sample, no place of the arrays was written
+pub same-arrays : {lines : List (List ℕ)} {filled most : ℕ} {sp ac sp′ ac′ : List ℤ} {read : Stretch} → series.Reads lines filled most sp ac sp′ ac′ read → read .samples ≡ 0
+    → (sp′ ≡ sp) × (ac′ ≡ ac)
+unfolding setpointsOf actualsOf
+same-arrays {lines} {filled} {most} {sp} {ac} {sp′} {ac′} reads none = by-samples (frontSamples most lines) refl
+  where
+    by-samples : (ss : List Sample) → frontSamples most lines ≡ ss → (sp′ ≡ sp) × (ac′ ≡ ac)
+    by-samples [] e = (reads .setpoints ∙ ap (λ (l : List Sample). sets sp filled (setpointsOf l)) e, reads .actuals ∙ ap (λ (l : List Sample). sets ac filled (actualsOf l)) e)
+    by-samples (s ∷ ss) e = absurd (omega (arith, none, reads .samples ∙ ap length e))
 
-pub found-stretch : {g g′ : Gatherer} {block : List ℕ} {at room : ℕ} {sp ac sp′ ac′ : List ℤ} {read : Stretch} → Start g → Stretched block at 0 room sp ac sp′ ac′ read → (read .samples ≡ 0 → ⊥)
-    → g′ ≡ pastOf (read .samples) g → Finds g block at room sp ac sp′ ac′ (record { gatherer = g′; used = read .bytes; samples = read .samples; complete = false })
-found-stretch start reads some gone =
-    record {
-      line = λ e. absurd (some e);
-      stretch = λ p. record { start = start; reads = reads; past = gone; line-less = refl };
-      setpoints = same-arrays reads .0;
-      actuals = same-arrays reads .1;
-    }
+pub found-stretch : {g g′ : Gatherer} {block : List ℕ} {at filled room : ℕ} {sp ac sp′ ac′ : List ℤ} {read : Stretch} → Start g
+    → Stretched block at filled (filled + room) sp ac sp′ ac′ read → (read .samples ≡ 0 → ⊥) → g′ ≡ pastOf (read .samples) g
+    → Finds g block at filled room sp ac sp′ ac′ (record { gatherer = g′; used = read .bytes; samples = read .samples; complete = false })
+found-stretch start reads some gone = record { line = λ e. absurd (some e); stretch = λ p. record { start = start; reads = reads; past = gone; line-less = refl } }
 
 -- the gatherer after a line
 pub after-line : (f : Found) {g : Gatherer} → f .complete ≡ true → g ≡ freshOf (f .gatherer) → g ≡ afterOf f
 after-line f e q = q ∙ sym (ap (λ (b : Bool). cond b (freshOf (f .gatherer)) (f .gatherer)) e)
 
 -- the desk's turn, by what was found
-module _ (d : Desk) (f : Found) (given : List Sample) where
+module _ (d : BareDesk) (f : Found) (sp ac : List ℤ) where
   abbrev by-kind : Bool → Bool → Turn
-  by-kind some complete = cond some (samplesTurn d given) (cond complete (lineTurn d (f .gatherer .count) (heldBy (f .gatherer))) (quiet d))
+  by-kind some complete =
+      cond some (quarterTurn (wholeOf (withMore (d .bare) (f .samples)) sp ac))
+      (cond complete (lineTurn (deskWith d sp ac) (f .gatherer .count) (heldBy (f .gatherer))) (quiet (deskWith d sp ac)))
 
-  pub turn-of-stretch : 0 < f .samples → samplesTurn d given ≡ turnBy d f given
+  pub turn-of-stretch : 0 < f .samples → quarterTurn (wholeOf (withMore (d .bare) (f .samples)) sp ac) ≡ turnBy d f sp ac
   turn-of-stretch h = sym (ap (λ (b : Bool). by-kind b (f .complete)) (lt-ltb 0 (f .samples) h))
 
-  pub turn-of-line : f .samples ≤ 0 → f .complete ≡ true → lineTurn d (f .gatherer .count) (heldBy (f .gatherer)) ≡ turnBy d f given
+  pub turn-of-line : f .samples ≤ 0 → f .complete ≡ true → lineTurn (deskWith d sp ac) (f .gatherer .count) (heldBy (f .gatherer)) ≡ turnBy d f sp ac
   turn-of-line h e = sym (ap (λ (b : Bool). by-kind b (f .complete)) (le-ltb 0 (f .samples) h) ∙ ap (by-kind false) e)
 
-  pub no-turn : f .samples ≤ 0 → f .complete ≡ false → quiet d ≡ turnBy d f given
+  pub no-turn : f .samples ≤ 0 → f .complete ≡ false → quiet (deskWith d sp ac) ≡ turnBy d f sp ac
   no-turn h e = sym (ap (λ (b : Bool). by-kind b (f .complete)) (le-ltb 0 (f .samples) h) ∙ ap (by-kind false) e)
+
+-- another name of the turn
+pub as-steps : {out out′ : List ℕ} {turn turn′ : Turn} {r : Stepped} {sp ac : List ℤ} → turn ≡ turn′ → Steps out turn r sp ac out′ → Steps out turn′ r sp ac out′
+as-steps {out} {out′} {r = r} {sp = sp} {ac = ac} e s = subst (λ (x : Turn). Steps out x r sp ac out′) e s
+
+-- the same step, as a desk with the powers of its samples tells it
+abbrev toldBy : Stepped → List ℤ → List ℤ → Told
+toldBy r sp ac = record { desk = deskWith (r .desk) sp ac; printed = Length (r .printed) }
+
+as-told : {out out′ : List ℕ} {turn : Turn} {r : Stepped} {sp ac : List ℤ} → Steps out turn r sp ac out′ → Told-whole out turn (toldBy r sp ac) out′
+as-told s = record { desk = s .desk; printed = ap Length (s .printed); bytes = s .bytes; room = s .room }
+
+-- samples that are counted
+pub counted-steps : {bare : Bare} {sp ac : List ℤ} {out out′ : List ℕ} {t : BareTold} {n : ℕ} → bufferLength ≤ length out → Settles out bare sp ac t out′ → n ≡ lengthOf (t .printed)
+    → Steps out (quarterTurn (wholeOf bare sp ac)) (record { desk = record { bare = t .bare; stage = Open }; printed = n }) sp ac out′
+counted-steps {bare} {sp} {ac} {out} {t = t} h y e =
+    let a = yields.answers h y in
+    let some : n-of t ≡ length (quarterTurn (wholeOf bare sp ac) .text) = ap n-of a in
+    record {
+      desk = ap (λ (x : BareTold). deskAt Open (wholeOf (x .bare) sp ac)) a ∙ quarter-whole bare sp ac;
+      printed = e ∙ some;
+      bytes = yields.puts h y;
+      room = omega (arith, y .room, some);
+    }
+  where
+    n-of : BareTold → ℕ
+    n-of x = lengthOf (x .printed)
+
+-- a line, for the desk with the powers of its samples
+pub line-steps : {before : Desk} {turn : Turn} {told : Told} {out out′ : List ℕ} {b : Bare} {sp ac : List ℤ} {n : ℕ} → bufferLength ≤ length out → Tells out before turn told out′
+    → b ≡ bareOf (told .desk .run) → sp ≡ told .desk .run .tape .setpoints → ac ≡ told .desk .run .tape .actuals → n ≡ lengthOf (told .printed)
+    → Steps out turn (record { desk = record { bare = b; stage = told .desk .stage }; printed = n }) sp ac out′
+line-steps {told = told} h t e p q k =
+    let w = told-whole h t in
+    record {
+      desk = (λ i. record { run = wholeOf (e i) (p i) (q i); stage = told .desk .stage }) ∙ w .desk;
+      printed = k ∙ ap lengthOf (w .printed);
+      bytes = w .bytes;
+      room = w .room;
+    }
+
+-- nothing
+pub no-steps : (d : BareDesk) (sp ac : List ℤ) (out : List ℕ) → Steps out (quiet (deskWith d sp ac)) (record { desk = d; printed = 0 }) sp ac out
+no-steps d sp ac out = record { desk = refl; printed = refl; bytes = refl; room = omega arith }
 
 -- ---- A STEP: what was found, as the desk told of it
 
-module _ (reader : Reader) (block : List ℕ) (at : ℕ) (out : List ℕ) (o : closedOf (reader .desk) ≡ false) (h : at < length block) {room : ℕ} {sp ac sp′ ac′ : List ℤ} {found : Found}
-    (there : room ≡ roomAt (reader .desk .stage) (reader .desk .run)) (finds : Finds (reader .gatherer) block at room sp ac sp′ ac′ found) where
-  -- no more samples than the arrays hold
-  pub samples-there : (found .samples ≤ length sp′) × (found .samples ≤ length ac′)
-  samples-there = by-samples (found .samples) refl
-    where
-      by-samples : (n : ℕ) → found .samples ≡ n → (found .samples ≤ length sp′) × (found .samples ≤ length ac′)
-      by-samples zero e = (omega arith, omega arith)
-      by-samples (suc n) e = samples-in reader block at out h there (finds .stretch (omega arith) .reads)
+module _ (g : Gatherer) (d : BareDesk) (block : List ℕ) (at : ℕ) (out : List ℕ) (o : closedAt (d .stage) ≡ false) (h : at < length block) {room : ℕ} {sp ac sp′ ac′ : List ℤ} {found : Found}
+    (there : room ≡ roomAt (d .stage) (wholeOf (d .bare) sp ac)) (finds : Finds g block at (d .bare .filled) room sp ac sp′ ac′ found) where
+  abbrev reader : Reader
+  reader = readerWith g (deskWith d sp ac)
 
-  abbrev given-by : Found → List Sample
-  given-by f = samplesIn (take (f .samples) sp′) (take (f .samples) ac′)
+  -- there are places for all samples
+  pub samples-there : 0 < found .samples → d .bare .filled + found .samples ≤ 900
+  samples-there p =
+      let few = samples-fit reader block at out h there (finds .stretch p .reads) in
+      omega (arith, few, room-within (d .stage) (wholeOf (d .bare) sp ac), there)
 
-  pub step-of : {told : Told} {out′ : List ℕ} → Told-whole out (turnBy (reader .desk) found (given-by found)) told out′ → Moves reader block at out (movedBy found told) out′
-  step-of {told} {out′} t = by-samples (found .samples) refl
+  -- samples whose powers were put in their places are those that the desk takes line by line
+  counted-are : (p : 0 < found .samples)
+      → quarterTurn (wholeOf (withMore (d .bare) (found .samples)) sp′ ac′)
+      ≡ samplesTurn (deskWith d sp ac) (frontSamples (mostOf (d .bare .filled) (d .bare .filled + room) sp ac) (linesAt block at))
+  unfolding samplesTurn
+  counted-are p =
+      let reads = finds .stretch p .reads in
+      let few : found .samples ≤ roomOf (wholeOf (d .bare) sp ac) = omega (arith, samples-fit reader block at out h there reads, there, room-most (d .stage) (wholeOf (d .bare) sp ac)) in
+      ap quarterTurn (sym (put-there (d .bare) reads few))
+
+  step-of : {r : Stepped} {sp″ ac″ : List ℤ} {out′ : List ℕ} → Steps out (turnBy d found sp′ ac′) r sp″ ac″ out′
+      → Moves reader block at out (record { gatherer = afterOf found; desk = deskWith (r .desk) sp″ ac″; used = found .used; printed = r .printed }) out′
+  step-of {r} {sp″} {ac″} {out′} t = by-samples (found .samples) refl
     where
-      by-samples : (n : ℕ) → found .samples ≡ n → Moves reader block at out (movedBy found told) out′
+      by : Found → Left
+      by f = record { gatherer = afterOf f; desk = deskWith (r .desk) sp″ ac″; used = f .used; printed = r .printed }
+
+      by-samples : (n : ℕ) → found .samples ≡ n → Moves reader block at out (by found) out′
       by-samples zero e =
-          subst (λ (f : Found). Told-whole out (turnBy (reader .desk) f (given-by f)) told out′ → Moves reader block at out (movedBy f told) out′) (sym (finds .line e))
-          (λ t. line-step reader block at out o h t) t
+          let l = finds .line e in
+          let same : turnBy d found sp′ ac′ ≡ turnBy d found sp ac = ap (λ (x : List ℤ). turnBy d found x ac′) (l .1 .0) ∙ ap (λ (y : List ℤ). turnBy d found sp y) (l .1 .1) in
+          subst (λ (f : Found). Steps out (turnBy d f sp ac) r sp″ ac″ out′ → Moves reader block at out (by f) out′) (sym (l .0))
+          (λ s. line-step reader block at out o h (as-told s)) (as-steps same t)
       by-samples (suc n) e =
           let s = finds .stretch (omega arith) in
           stretch-step reader block at out h there (s .reads) (s .start) (omega arith)
           (ap (λ (b : Bool). cond b (freshOf (found .gatherer)) (found .gatherer)) (s .line-less) ∙ s .past)
-          (subst
-          (λ (b : Bool). Told-whole out
-          (cond b (samplesTurn (reader .desk) (given-by found)) (cond (found .complete) (lineTurn (reader .desk) (found .gatherer .count) (heldBy (found .gatherer))) (quiet (reader .desk))))
-          told out′)
-          (lt-ltb 0 (found .samples) (omega arith)) t)
+          (as-told (as-steps (sym (turn-of-stretch d found sp′ ac′ (omega arith)) ∙ counted-are (omega arith)) t))
 
   -- as the code comes by it
-  pub one-step : {told : Told} {out′ : List ℕ} {g : Gatherer} {n : ℕ} → bufferLength ≤ length out → Tells out (reader .desk) (turnBy (reader .desk) found (given-by found)) told out′
-      → n ≡ lengthOf (told .printed) → g ≡ afterOf found → Moves reader block at out (record { gatherer = g; desk = told .desk; used = found .used; printed = n }) out′
-  one-step {told} {out′} {g} {n} enough tells e f =
-      subst (λ (k : ℕ). Moves reader block at out (record { gatherer = g; desk = told .desk; used = found .used; printed = k }) out′) (sym e)
-      (subst (λ (y : Gatherer). Moves reader block at out (record { gatherer = y; desk = told .desk; used = found .used; printed = lengthOf (told .printed) }) out′) (sym f)
-      (step-of (told-whole enough tells)))
+  pub one-step : {r : Stepped} {sp″ ac″ : List ℤ} {out′ : List ℕ} {g′ : Gatherer} → Steps out (turnBy d found sp′ ac′) r sp″ ac″ out′ → g′ ≡ afterOf found
+      → Moves reader block at out (record { gatherer = g′; desk = deskWith (r .desk) sp″ ac″; used = found .used; printed = r .printed }) out′
+  one-step {r} {sp″} {ac″} {out′} {g′} t f =
+      subst (λ (y : Gatherer). Moves reader block at out (record { gatherer = y; desk = deskWith (r .desk) sp″ ac″; used = found .used; printed = r .printed }) out′) (sym f) (step-of t)
 
-pub other-out : {reader : Reader} {block : List ℕ} {at : ℕ} {out out₁ out′ : List ℕ} {r : Moved} → out₁ ≡ out → Moves reader block at out₁ r out′ → Moves reader block at out r out′
+-- it gets on, and stays in the block
+module _ (g : Gatherer) (d : BareDesk) (block : List ℕ) (at : ℕ) (o : closedAt (d .stage) ≡ false) (h : at < length block) {room : ℕ} {sp ac sp′ ac′ : List ℤ} {found : Found}
+    (there : room ≡ roomAt (d .stage) (wholeOf (d .bare) sp ac)) (finds : Finds g block at (d .bare .filled) room sp ac sp′ ac′ found) where
+  abbrev its-turn : Turn
+  its-turn = turnBy d found sp′ ac′
+
+  -- whatever it prints
+  alone : Stepped
+  alone = record { desk = record { bare = bareOf (its-turn .desk .run); stage = its-turn .desk .stage }; printed = length (its-turn .text) }
+
+  told-alone : Steps (its-turn .text) its-turn alone (its-turn .desk .run .tape .setpoints) (its-turn .desk .run .tape .actuals) (over (its-turn .text) (its-turn .text))
+  unfolding alone
+  told-alone = record { desk = refl; printed = refl; bytes = refl; room = omega arith }
+
+  pub gets-on : (0 < found .used) × (at + found .used ≤ length block)
+  gets-on =
+      let m = one-step g d block at (its-turn .text) o h there finds told-alone refl in
+      (m .some, m .within)
+
+pub other-out : {reader : Reader} {block : List ℕ} {at : ℕ} {out out₁ out′ : List ℕ} {r : Left} → out₁ ≡ out → Moves reader block at out₁ r out′ → Moves reader block at out r out′
 other-out {reader} {block} {at} {out′ = out′} {r = r} e s = subst (λ (l : List ℕ). Moves reader block at l r out′) e s
 
 -- ---- ALL STEPS: what was read so far came to a reader at place i, and printed nothing
@@ -377,9 +438,9 @@ pub so-first : (start : Reader) (block : List ℕ) → So start block start 0
 so-first start block = forth-none (feedOf start block)
 
 -- an outcome that is known is what was read
-by-outcome : {start : Reader} {block out out′ : List ℕ} {r : Moved} (text : List ℕ)
+by-outcome : {start : Reader} {block out out′ : List ℕ} {r : Left} (text : List ℕ)
     → feedOf start block ≡ record { gatherer = r .gatherer; desk = r .desk; used = r .used; text = text }
-    → r .printed ≡ length text → out′ ≡ over text out → length text ≤ bufferLength → Reads start block out r out′
+    → r .printed ≡ length text → out′ ≡ over text out → length text ≤ length out → Reads start block out r out′
 by-outcome {start} {block} {out} {out′} {r} text q p b m =
     let e : feedOf start block .text ≡ text = ap (λ (o : Outcome Desk). o .text) q in
     record {
@@ -387,7 +448,7 @@ by-outcome {start} {block} {out} {out′} {r} text q p b m =
       used = sym (ap (λ (o : Outcome Desk). o .used) q);
       printed = p ∙ ap length (sym e);
       bytes = b ∙ ap (λ (l : List ℕ). over l out) (sym e);
-      room = subst (λ (l : List ℕ). length l ≤ bufferLength) (sym e) m;
+      room = subst (λ (l : List ℕ). length l ≤ length out) (sym e) m;
     }
 
 module _ (start : Reader) (block out : List ℕ) where
@@ -404,11 +465,11 @@ module _ (start : Reader) (block out : List ℕ) where
       → Reads start block out (record { gatherer = reader .gatherer; desk = reader .desk; used = i; printed = 0 }) exit
   so-ended reader i same so h = nothing-more reader i same so (at-end reader (drop i block) (drop-of-length-le block h))
 
-pub moves-length : {block out : List ℕ} {reader : Reader} {i : ℕ} {r : Moved} {out′ : List ℕ} → bufferLength ≤ length out → Moves reader block i out r out′ → length out′ ≡ length out
-moves-length {out = out} h m = ap length (m .bytes) ∙ over-length (m .text) out (omega (arith, m .room))
+pub moves-length : {block out : List ℕ} {reader : Reader} {i : ℕ} {r : Left} {out′ : List ℕ} → Moves reader block i out r out′ → length out′ ≡ length out
+moves-length {out = out} m = ap length (m .bytes) ∙ over-length (m .text) out (m .room)
 
 -- a step more
-module _ (start : Reader) {block out : List ℕ} {reader : Reader} {i : ℕ} {r : Moved} {out′ : List ℕ} (so : So start block reader i) (m : Moves reader block i out r out′) where
+module _ (start : Reader) {block out : List ℕ} {reader : Reader} {i : ℕ} {r : Left} {out′ : List ℕ} (so : So start block reader i) (m : Moves reader block i out r out′) where
   moved : feedOf start block ≡ thenOf (leftBy r) (m .text) (i + r .used) (drop (i + r .used) block)
   moved = so ∙ ap (forth i) (m .is) ∙ forth-turn i (r .gatherer) (turnOf (leftBy r) (m .text)) (r .used) _
 
@@ -429,7 +490,7 @@ module _ (start : Reader) {block out : List ℕ} {reader : Reader} {i : ℕ} {r 
       on-text [] e = absurd (let q : r .printed ≡ 0 = m .printed ∙ ap length e in (omega arith))
       on-text (x ∷ xs) e =
           by-outcome (x ∷ xs) (by-text (x ∷ xs) e) (m .printed ∙ ap length e)
-          (m .bytes ∙ ap (λ (l : List ℕ). over l out) e) (subst (λ (l : List ℕ). length l ≤ bufferLength) e (m .room))
+          (m .bytes ∙ ap (λ (l : List ℕ). over l out) e) (subst (λ (l : List ℕ). length l ≤ length out) e (m .room))
 
 -- ---- HOW FAR A CALL HAS COME: it goes on, and nothing was printed yet; or what it answers is known
 
@@ -457,7 +518,7 @@ pub record Going (start : Reader) (block out₀ : List ℕ) (reader : Reader) (i
   pub here : i < length block
 
 -- what was read up to place i, and printed
-abbrev upTo : Reader → ℕ → ℕ → Moved
+abbrev upTo : Reader → ℕ → ℕ → Left
 upTo reader i n = record { gatherer = reader .gatherer; desk = reader .desk; used = i; printed = n }
 
 pub record Come (start : Reader) (block out₀ : List ℕ) (reader : Reader) (i n : ℕ) (out : List ℕ) (on : Bool) : Type 0 where
@@ -495,12 +556,11 @@ pub come-first : (start : Reader) (block out : List ℕ) {on closed : Bool} → 
 come-first start block out e c = come start block out start 0 0 e c refl (λ z. (so-first start block, refl)) (λ h. absurd (omega arith))
 
 -- and after one more
-pub come-on : (start : Reader) {block out₀ : List ℕ} {reader : Reader} {i : ℕ} {r : Moved} {out out′ : List ℕ} {on closed : Bool} → bufferLength ≤ length out
-    → Going start block out₀ reader i out → Moves reader block i out r out′ → on ≡ goesOn (r .printed) closed (i + r .used) (length block) → closed ≡ closedOf (r .desk)
+pub come-on : (start : Reader) {block out₀ : List ℕ} {reader : Reader} {i : ℕ} {r : Left} {out out′ : List ℕ} {on closed : Bool} → Going start block out₀ reader i out → Moves reader block i out r out′ → on ≡ goesOn (r .printed) closed (i + r .used) (length block) → closed ≡ closedOf (r .desk)
     → Come start block out₀ (leftBy r) (i + r .used) (r .printed) out′ on
-come-on start {block} {out₀} {reader} {i} {r} {out} {out′} enough g m e c =
+come-on start {block} {out₀} {reader} {i} {r} {out} {out′} g m e c =
     let m₀ = other-out (g .same) m in
-    come start block out₀ (leftBy r) (i + r .used) (r .printed) e c (moves-length enough m ∙ ap length (g .same)) (so-on start (g .so) m₀) (so-told start (g .so) m₀)
+    come start block out₀ (leftBy r) (i + r .used) (r .printed) e c (moves-length m ∙ ap length (g .same)) (so-on start (g .so) m₀) (so-told start (g .so) m₀)
 
 -- ---- A CALL
 
@@ -508,12 +568,12 @@ pub too-short : (out : List ℕ) (reader : Reader) (o : Outcome Desk) → length
 too-short out reader o h = yields.too-short (λ (f : Fed). f .printed) bufferLength out (unfedOf reader) (fedOf o) (o .text) h refl
 
 -- the whole of a call, and the input's end
-pub fed-whole : {out out′ : List ℕ} {reader : Reader} {block : List ℕ} {r : Moved} {f : Fed} → bufferLength ≤ length out → f ≡ fedBy r → Reads reader block out r out′
+pub fed-whole : {out out′ : List ℕ} {reader : Reader} {block : List ℕ} {r : Left} {f : Fed} → bufferLength ≤ length out → f ≡ fedBy r → Reads reader block out r out′
     → Yields out reader (feedOf reader block) f out′
 fed-whole {out} {out′} {reader} {block} {r} h e t =
     let o : Outcome Desk = feedOf reader block in
     let whole : fedBy r ≡ fedOf o = λ i. record { reader = t .reader-is i; used = t .used i; printed = Length (t .printed i) } in
-    long-enough (λ (f : Fed). f .printed) bufferLength out (unfedOf reader) (fedOf o) (o .text) h (e ∙ whole) (t .bytes) (omega (arith, h, t .room))
+    long-enough (λ (f : Fed). f .printed) bufferLength out (unfedOf reader) (fedOf o) (o .text) h (e ∙ whole) (t .bytes) (omega (arith, t .room))
 
 pub finished : {out out′ : List ℕ} {reader : Reader} {n : ℕ} {told : Told} {f : Fed} → bufferLength ≤ length out → n ≡ reader .gatherer .count
     → Tells out (reader .desk) (finishTurn (reader .desk) n) told out′ → f ≡ endedBy (reader .gatherer) told → Yields out reader (finishOf reader) f out′
@@ -521,4 +581,4 @@ finished {out} {out′} {reader} {n} {told} h e t q =
     let w = told-whole h (subst (λ (k : ℕ). Tells out (reader .desk) (finishTurn (reader .desk) k) told out′) e t) in
     let o : Outcome Desk = finishOf reader in
     let whole : endedBy (reader .gatherer) told ≡ fedOf o = λ i. record { reader = record { gatherer = reader .gatherer; desk = w .desk i }; used = 0; printed = w .printed i } in
-    long-enough (λ (f : Fed). f .printed) bufferLength out (unfedOf reader) (fedOf o) (o .text) h (q ∙ whole) (w .bytes) (omega (arith, h, w .room))
+    long-enough (λ (f : Fed). f .printed) bufferLength out (unfedOf reader) (fedOf o) (o .text) h (q ∙ whole) (w .bytes) (omega (arith, w .room))

@@ -2,23 +2,25 @@
 // every other line by the reader of single lines. No line's meaning depends on which of them read it.
 use lines::Gatherer;
 use samples::read_samples;
+use settlement::bare::Bare;
 use sheets::BUFFER;
 use sheets::Printed;
 use text::desk::Desk;
+use text::desk::Stage;
 use text::desk::Told;
+use text::desk::samples;
 ghost use mathlib.Core.Path.{_≡_};
-ghost use Prim.Native.Nat.{_≤_, _<_};
+ghost use mathlib.Core.List.{List};
+ghost use Prim.Native.Nat.{_+_, _-_, _≤_, _<_};
+ghost use lib.IntN.{ℤ};
 ghost use lib.ListN.{length, take, drop};
 ghost use Rattle.lines.specs.Gathering.{gatheredOf};
 ghost use Rattle.lines.specs.Handing.{heldBy};
-ghost use Rattle.records.specs.Tape.{samplesIn};
+ghost use Rattle.settlement.specs.Bare.{wholeOf, withMore};
 ghost use Rattle.sheets.specs.Buffer.{bufferLength, lengthOf};
-ghost use Rattle.text.specs.Desk.{Tells, lineTurn, closedAt};
+ghost use Rattle.text.specs.Desk.{Tells, lineTurn, quarterTurn, roomAt, closedAt};
 ghost use Rattle.feed.specs.Reader.{emptyReader, feedOf, finishOf, Yields};
-ghost use Rattle.feed.specs.Steps.{readerWith, lineFound, Finds, turnBy, afterOf, goesOn, Reads, fedBy, endedBy};
-
-// No quarter hour has more samples.
-const MOST: usize = 900;
+ghost use Rattle.feed.specs.Steps.{readerWith, deskWith, lineFound, Finds, turnBy, Steps, afterOf, goesOn, leftOf, Reads, fedBy, endedBy};
 
 // The line at hand, and the desk.
 pub struct Reader {
@@ -43,10 +45,22 @@ struct Found {
     complete: bool,
 }
 
+// A desk while a block is read: the powers of its samples lie in two arrays beside it, so that it is handed on without them.
+struct BareDesk {
+    bare: Bare,
+    stage: Stage,
+}
+
+// The desk after a step, and how many bytes were printed.
+struct Stepped {
+    desk: BareDesk,
+    printed: usize,
+}
+
 // Gatherer and desk after some bytes of a block, and how many bytes were printed.
 struct Moved {
     gatherer: Gatherer,
-    desk: Desk,
+    desk: BareDesk,
     used: usize,
     printed: usize,
 }
@@ -70,7 +84,7 @@ fn told(desk: Desk, number: u64, bytes: &[u8], kept: usize, out: &mut [u8]) -> T
     desk.line(number, bytes, out)
 }
 
-fn served(desk: Desk, gatherer: Gatherer, out: &mut [u8]) -> Told
+fn line_told(desk: Desk, gatherer: Gatherer, out: &mut [u8]) -> Told
     ensures { λ r. ⌜ Tells (now (out .entry)) desk (lineTurn desk (gatherer .count) (heldBy gatherer)) r (now (out .exit)) ⌝ }
 {
     let bytes = gatherer.bytes();
@@ -92,22 +106,49 @@ fn line_at(gatherer: Gatherer, block: &[u8], at: usize) -> Found
     }
 }
 
-// As many samples as there are and the quarter hour takes, where a line starts, else a line. The samples go through two lent series.
+// How many samples more are taken before a quarter hour is full; none where no run is open.
+fn room(desk: BareDesk) -> usize
+    ensures { λ r. ⌜ ((sp ac : List ℤ) → r ≡ roomAt (desk .stage) (wholeOf (desk .bare) sp ac)) ⌝ }
+{
+    let stage = desk.stage;
+    let bare = desk.bare;
+    match stage {
+        Stage::Empty => 0,
+        Stage::Open => bare.room(),
+        Stage::Closed => 0,
+    }
+}
+
+// Whether the end or a refusal was printed.
+fn is_closed(desk: BareDesk) -> bool
+    ensures { λ r. ⌜ r ≡ closedAt (desk .stage) ⌝ }
+{
+    let stage = desk.stage;
+    match stage {
+        Stage::Empty => false,
+        Stage::Open => false,
+        Stage::Closed => true,
+    }
+}
+
+// As many samples as there are and the quarter hour takes, where a line starts, else a line. Their powers go straight to their places, after those that count.
 fn next(
     gatherer: Gatherer,
     block: &[u8],
     at: usize,
-    setpoints: &mut [i32],
-    actuals: &mut [i32],
+    setpoints: &mut [i32; 900],
+    actuals: &mut [i32; 900],
+    filled: usize,
     room: usize,
 ) -> Found
     requires { ⌜ at < length (now block) ⌝ }
-    ensures { λ r. ⌜ Finds gatherer (now (block .entry)) at room (now (setpoints .entry)) (now (actuals .entry)) (now (setpoints .exit)) (now (actuals .exit)) r ⌝ }
+    requires { ⌜ room ≤ 900 - filled ⌝ }
+    ensures { λ r. ⌜ Finds gatherer (now (block .entry)) at filled room (now (setpoints .entry)) (now (actuals .entry)) (now (setpoints .exit)) (now (actuals .exit)) r ⌝ }
 {
     if !gatherer.at_start() {
         return line_at(gatherer, block, at);
     }
-    let read = read_samples(block, at, setpoints, actuals, 0, room);
+    let read = read_samples(block, at, setpoints, actuals, filled, filled + room);
     if read.samples == 0 {
         return line_at(gatherer, block, at);
     }
@@ -119,25 +160,85 @@ fn next(
     }
 }
 
-// What the desk makes of it.
-fn told_of(desk: Desk, found: Found, setpoints: &[i32], actuals: &[i32], out: &mut [u8]) -> Told
-    requires { ⌜ (found .samples ≤ length (now setpoints)) × (found .samples ≤ length (now actuals)) ⌝ }
-    ensures { λ r. ⌜ Tells (now (out .entry)) desk
-        (turnBy desk found (samplesIn (take (found .samples) (now (setpoints .entry))) (take (found .samples) (now (actuals .entry)))))
-        r (now (out .exit)) ⌝ }
+// Samples more, of which the powers are in their places.
+fn counted(
+    bare: Bare,
+    count: usize,
+    setpoints: &[i32; 900],
+    actuals: &[i32; 900],
+    out: &mut [u8],
+) -> Stepped
+    requires { ⌜ bare .filled + count ≤ 900 ⌝ }
+    requires { ⌜ bufferLength ≤ length (now out) ⌝ }
+    ensures { λ r. ⌜ Steps (now (out .entry)) (quarterTurn (wholeOf (withMore bare count) (now (setpoints .entry)) (now (actuals .entry)))) r
+        (now (setpoints .entry)) (now (actuals .entry)) (now (out .exit)) ⌝ }
+{
+    let mut longer = bare;
+    longer.filled = bare.filled + count;
+    let told = samples(longer, setpoints, actuals, out);
+    let after = told.bare;
+    let printed = told.printed;
+    Stepped {
+        desk: BareDesk {
+            bare: after,
+            stage: Stage::Open,
+        },
+        printed: length_of(printed),
+    }
+}
+
+// A line, for the whole desk.
+fn served(
+    desk: BareDesk,
+    gatherer: Gatherer,
+    setpoints: &mut [i32; 900],
+    actuals: &mut [i32; 900],
+    out: &mut [u8],
+) -> Stepped
+    requires { ⌜ bufferLength ≤ length (now out) ⌝ }
+    ensures { λ r. ⌜ Steps (now (out .entry)) (lineTurn (deskWith desk (now (setpoints .entry)) (now (actuals .entry))) (gatherer .count) (heldBy gatherer)) r
+        (now (setpoints .exit)) (now (actuals .exit)) (now (out .exit)) ⌝ }
+{
+    let bare = desk.bare;
+    let stage = desk.stage;
+    let run = bare.whole(setpoints, actuals);
+    let told = line_told(Desk { run, stage }, gatherer, out);
+    let whole = told.desk;
+    let after = whole.run;
+    let now = whole.stage;
+    let printed = told.printed;
+    Stepped {
+        desk: BareDesk {
+            bare: after.apart(setpoints, actuals),
+            stage: now,
+        },
+        printed: length_of(printed),
+    }
+}
+
+// What the desk makes of what was found.
+fn told_of(
+    desk: BareDesk,
+    found: Found,
+    setpoints: &mut [i32; 900],
+    actuals: &mut [i32; 900],
+    out: &mut [u8],
+) -> Stepped
+    requires { ⌜ (0 < found .samples → desk .bare .filled + found .samples ≤ 900) ⌝ }
+    requires { ⌜ bufferLength ≤ length (now out) ⌝ }
+    ensures { λ r. ⌜ Steps (now (out .entry)) (turnBy desk found (now (setpoints .entry)) (now (actuals .entry))) r
+        (now (setpoints .exit)) (now (actuals .exit)) (now (out .exit)) ⌝ }
 {
     let n = found.samples;
     if 0 < n {
-        return desk.samples(&setpoints[..n], &actuals[..n], out);
+        let bare = desk.bare;
+        return counted(bare, n, setpoints, actuals, out);
     }
     if found.complete {
         let gatherer = found.gatherer;
-        return served(desk, gatherer, out);
+        return served(desk, gatherer, setpoints, actuals, out);
     }
-    Told {
-        desk,
-        printed: Printed::Length(0),
-    }
+    Stepped { desk, printed: 0 }
 }
 
 // The gatherer for what follows it.
@@ -164,53 +265,66 @@ fn goes_on(printed: usize, closed: bool, at: usize, end: usize) -> bool
     at < end
 }
 
-// On until something is printed, the desk is closed, or the block ends. The desk stays in what was told last, and there is one way out: else it would be
-// copied once more for each step.
+// On until something is printed, the desk is closed, or the block ends. The desk stays in what came of the last step, and there is one way out: else it would
+// be copied once more for each step.
 fn read_on(
     first: Gatherer,
-    opened: Desk,
+    opened: BareDesk,
     block: &[u8],
-    setpoints: &mut [i32],
-    actuals: &mut [i32],
+    setpoints: &mut [i32; 900],
+    actuals: &mut [i32; 900],
     out: &mut [u8],
 ) -> Moved
     requires { ⌜ bufferLength ≤ length (now out) ⌝ }
-    ensures { λ r. ⌜ Reads (readerWith first opened) (now (block .entry)) (now (out .entry)) r (now (out .exit)) ⌝ }
+    ensures { λ r. ⌜ Reads (readerWith first (deskWith opened (now (setpoints .entry)) (now (actuals .entry)))) (now (block .entry)) (now (out .entry))
+        (leftOf r (now (setpoints .exit)) (now (actuals .exit))) (now (out .exit)) ⌝ }
 {
     let mut gatherer = first;
-    let mut told = Told {
+    let mut step = Stepped {
         desk: opened,
-        printed: Printed::Length(0),
+        printed: 0,
     };
     let mut i = 0;
-    let mut n = 0;
-    let mut on = goes_on(0, told.desk.is_closed(), 0, block.len());
+    let mut on = goes_on(0, is_closed(step.desk), 0, block.len());
     while on {
-        let found = next(gatherer, block, i, setpoints, actuals, told.desk.room());
-        told = told_of(told.desk, found, setpoints, actuals, out);
-        let printed = told.printed;
-        n = length_of(printed);
+        let filled = step.desk.bare.filled;
+        let found = next(
+            gatherer,
+            block,
+            i,
+            setpoints,
+            actuals,
+            filled,
+            room(step.desk),
+        );
+        step = told_of(step.desk, found, setpoints, actuals, out);
         gatherer = after(found);
         i += found.used;
-        on = goes_on(n, told.desk.is_closed(), i, block.len());
+        on = goes_on(step.printed, is_closed(step.desk), i, block.len());
     }
-    let desk = told.desk;
+    let desk = step.desk;
     Moved {
         gatherer,
         desk,
         used: i,
-        printed: n,
+        printed: step.printed,
     }
 }
 
 // The answer to a call by what it read, and to the input's end by what the desk told.
-fn fed_by(moved: Moved) -> Fed
-    ensures { λ r. ⌜ r ≡ fedBy moved ⌝ }
+fn fed_by(moved: Moved, setpoints: &[i32; 900], actuals: &[i32; 900]) -> Fed
+    ensures { λ r. ⌜ r ≡ fedBy (leftOf moved (now (setpoints .entry)) (now (actuals .entry))) ⌝ }
 {
     let gatherer = moved.gatherer;
     let desk = moved.desk;
+    let bare = desk.bare;
+    let stage = desk.stage;
+    let run = bare.whole(setpoints, actuals);
     Fed {
-        reader: Reader { gatherer, desk },
+        reader: Reader {
+            gatherer,
+            desk: Desk { run, stage },
+        },
         used: moved.used,
         printed: Printed::Length(moved.printed),
     }
@@ -259,12 +373,16 @@ impl Reader {
                 printed: Printed::TooShort,
             };
         }
-        let mut setpoints = [0i32; MOST];
-        let mut actuals = [0i32; MOST];
+        let mut setpoints = [0i32; 900];
+        let mut actuals = [0i32; 900];
         let gatherer = self.gatherer;
         let desk = self.desk;
-        let moved = read_on(gatherer, desk, block, &mut setpoints, &mut actuals, out);
-        fed_by(moved)
+        let stage = desk.stage;
+        let run = desk.run;
+        let bare = run.apart(&mut setpoints, &mut actuals);
+        let opened = BareDesk { bare, stage };
+        let moved = read_on(gatherer, opened, block, &mut setpoints, &mut actuals, out);
+        fed_by(moved, &setpoints, &actuals)
     }
 
     // The input ended.

@@ -7,7 +7,7 @@ use lib.Dec.{leb}
 use lib.IntN.{ℤ, pos}
 use lib.ListN.{set, replicate}
 use Rattle.vocabulary.specs.declared.refusal.Refusal.{Refusal}
-use Rattle.vocabulary.specs.declared.refusal.Refusal.the-variants.{None, WrongMoment, BadPower}
+use Rattle.vocabulary.specs.declared.refusal.Refusal.the-variants.{WrongMoment, BadPower}
 use Rattle.vocabulary.specs.Refusals.{numberOf, accepted}
 use Rattle.vocabulary.specs.Grounds.{on, first}
 use Rattle.vocabulary.specs.Sample.{powerInRange}
@@ -57,11 +57,3 @@ oneRecorded size taken quarters tape setpoint actual =
       tape = cond (accepted (sampleRefusal size (tape .filled) taken quarters setpoint actual)) (longer tape setpoint actual) tape;
       refusal = sampleRefusal size (tape .filled) taken quarters setpoint actual;
     }
-
--- several, one after the other, until one is refused
-unfoldable pub recordedOf : ℕ → ℕ → ℕ → Tape → List Sample → Recorded
-recordedOf size taken quarters tape [] = record { tape = tape; refusal = None }
-recordedOf size taken quarters tape (s ∷ ss) =
-    cond (accepted (sampleRefusal size (tape .filled) taken quarters (s .setpoint) (s .actual)))
-    (recordedOf size taken quarters (longer tape (s .setpoint) (s .actual)) ss)
-    (record { tape = tape; refusal = sampleRefusal size (tape .filled) taken quarters (s .setpoint) (s .actual) })

@@ -4,9 +4,9 @@ use vocabulary::refusal::Refusal;
 use vocabulary::sample::Sample;
 use vocabulary::sample::in_range;
 ghost use mathlib.Core.Path.{_≡_};
-ghost use Prim.Native.Nat.{_≤_, _<_};
+ghost use Prim.Native.Nat.{_<_};
 ghost use Rattle.vocabulary.specs.Interval.{windowsOf};
-ghost use Rattle.records.specs.Tape.{longer, Admitted, samplesIn, oneRecorded, recordedOf};
+ghost use Rattle.records.specs.Tape.{longer, Admitted, oneRecorded};
 
 // Only the first `filled` places count.
 pub struct Tape {
@@ -55,47 +55,6 @@ impl Tape {
         self
     }
 
-    // Samples, one after the other, until one is refused: a quarter hour has `size` of them.
-    fn with_all(
-        mut self,
-        size: usize,
-        taken: u8,
-        quarters: u8,
-        setpoints: &[i32],
-        actuals: &[i32],
-    ) -> Recorded
-        requires { ⌜ size ≤ 900 ⌝ }
-        ensures { λ r. ⌜ r ≡ recordedOf size taken quarters self (samplesIn (now (setpoints .entry)) (now (actuals .entry))) ⌝ }
-    {
-        let mut k = 0;
-        while k < setpoints.len() {
-            if actuals.len() <= k {
-                return Recorded {
-                    tape: self,
-                    refusal: Refusal::None,
-                };
-            }
-            let setpoint = setpoints[k];
-            let actual = actuals[k];
-            let at = self.filled;
-            let refusal = sample_refusal(size, at, taken, quarters, Sample { setpoint, actual });
-            if refusal.number() != 0 {
-                return Recorded {
-                    tape: self,
-                    refusal: refusal,
-                };
-            }
-            self.setpoints[at] = setpoint;
-            self.actuals[at] = actual;
-            self.filled = at + 1;
-            k += 1;
-        }
-        Recorded {
-            tape: self,
-            refusal: Refusal::None,
-        }
-    }
-
     // One sample of a quarter hour, kept where it is not refused.
     pub fn with_sample(
         self,
@@ -118,20 +77,5 @@ impl Tape {
             tape: self.with(sample),
             refusal: refusal,
         }
-    }
-
-    // Several, one after the other, until one is refused.
-    pub fn with_samples(
-        self,
-        interval: Interval,
-        taken: u8,
-        quarters: u8,
-        setpoints: &[i32],
-        actuals: &[i32],
-    ) -> Recorded
-        ensures { λ r. ⌜ r ≡ recordedOf (windowsOf interval .samples) taken quarters self (samplesIn (now (setpoints .entry)) (now (actuals .entry))) ⌝ }
-    {
-        let windows = interval.windows();
-        self.with_all(windows.samples, taken, quarters, setpoints, actuals)
     }
 }

@@ -1,13 +1,13 @@
 -- Several samples, one after the other; what the room in the quarter hour at hand says of them.
 use Prim.Native.Nat.{ℕ, suc, _-_, _≤_, _<_}
-use borrow.Author.Tests.{eq-eqb, ne-eqb, lt-leb, lt-ltb}
+use borrow.Author.Tests.{lt-leb, lt-ltb}
 use lib.Dec.{eqb, leb}
 use mathlib.Core.Path.{_≡_, refl, sym, ap, _∙_}
 use mathlib.Core.Bool.{Bool, true, false, cond}
 use mathlib.Core.List.{List, [], _∷_}
 use native.Mathlib.Omega.{arith}
-use lib.ListN.{length, getD}
-use lib.IntN.{ℤ, pos}
+use lib.ListN.{length}
+use lib.IntN.{ℤ}
 use Rattle.vocabulary.specs.declared.sample.Sample.{Sample}
 use Rattle.vocabulary.specs.declared.refusal.Refusal.{Refusal}
 use Rattle.vocabulary.specs.declared.refusal.Refusal.the-variants.{None, WrongMoment, BadBlockLength}
@@ -20,7 +20,7 @@ use Rattle.settlement.specs.Load.{orLacking}
 use Rattle.settlement.specs.declared.run.Run.{Run}
 use Rattle.settlement.specs.Run.{sampled, sampleGround, answerOf, sampledOf, takeGround}
 use Rattle.settlement.specs.Many.{roomOf, unlessRefused, manyOf}
-use Rattle.records.specs.Tape.{longer, sampleRefusal, samplesIn, oneRecorded, recordedOf}
+use Rattle.records.specs.Tape.{longer, sampleRefusal, oneRecorded}
 use Rattle.records.specs.declared.tape.Tape.{Tape}
 use Rattle.records.specs.declared.tape.Recorded.{Recorded}
 
@@ -60,62 +60,6 @@ module _ (run : Run) (x y : ℤ) {r : Recorded} {g : Refusal} (e : r ≡ oneReco
   one-refused h =
       let f′ = rw e at f in
       rw (f′, rw f′ at h)
-
--- what samples make of a run is what they make of its tape
-recorded-in : Run → Tape → List Sample → Recorded
-recorded-in run tape ss = recordedOf (samplesOf (run .past)) (run .account .taken) (run .plan .quarters) tape ss
-
-many-from : (run : Run) (tape : Tape) (ss : List Sample) → run .load .left ≡ 0
-    → manyOf (withTape run tape) ss ≡ record { run = withTape run (recorded-in run tape ss .tape); refusal = recorded-in run tape ss .refusal }
-unfolding manyOf recordedOf sampledOf sampleGround sampled recorded-in
-many-from run tape [] none = refl
-many-from run tape (s ∷ ss) none = rw (eq-eqb _ _ none) (go
-    (sampleRefusal (samplesOf (run .past)) (tape .filled) (run .account .taken) (run .plan .quarters) (s .setpoint) (s .actual)) (many-from run (longer tape (s .setpoint) (s .actual)) ss none))
-  where
-    next : Run
-    next = withTape run (longer tape (s .setpoint) (s .actual))
-
-    rest : Recorded
-    rest = recordedOf (samplesOf (run .past)) (run .account .taken) (run .plan .quarters) (longer tape (s .setpoint) (s .actual)) ss
-
-    by : (g : Refusal) (b : Bool) → accepted g ≡ b → manyOf next ss ≡ record { run = withTape run (rest .tape); refusal = rest .refusal }
-        → unlessRefused (answerOf g next (withTape run tape)) (manyOf (answerOf g next (withTape run tape) .run) ss)
-        ≡ record { run = withTape run (cond (accepted g) rest (record { tape = tape; refusal = g }) .tape); refusal = cond (accepted g) rest (record { tape = tape; refusal = g }) .refusal }
-    by g true e f = rw e f
-    by g false e f = rw e
-
-    go : (g : Refusal) → manyOf next ss ≡ record { run = withTape run (rest .tape); refusal = rest .refusal }
-        → unlessRefused (answerOf g next (withTape run tape)) (manyOf (answerOf g next (withTape run tape) .run) ss)
-        ≡ record { run = withTape run (cond (accepted g) rest (record { tape = tape; refusal = g }) .tape); refusal = cond (accepted g) rest (record { tape = tape; refusal = g }) .refusal }
-    go g f = by g (accepted g) refl f
-
-pub many-recorded : (run : Run) (ss : List Sample) {r : Recorded} → run .load .left ≡ 0
-    → r ≡ recordedOf (samplesOf (run .past)) (run .account .taken) (run .plan .quarters) (run .tape) ss
-    → record { run = withTape run (r .tape); refusal = r .refusal } ≡ manyOf run ss
-unfolding recorded-in
-many-recorded run ss none e = rw e (sym (many-from run (run .tape) ss none))
-
--- WHILE A BLOCK LACKS SETPOINTS the first sample is refused, so the others don't count
-pub many-lacking : (run : Run) (sp ac : List ℤ) → 0 < run .load .left → 0 < length sp → 0 < length ac
-    → manyOf run (samplesIn sp ac) ≡ sampledOf run (getD sp 0 (pos 0)) (getD ac 0 (pos 0))
-unfolding manyOf samplesIn sampledOf sampleGround
-many-lacking run [] ac h p q = absurd (omega arith)
-many-lacking run (x ∷ sp) [] h p q = absurd (omega arith)
-many-lacking run (x ∷ sp) (y ∷ ac) h p q =
-    let e = ne-eqb (run .load .left) 0 (λ e. absurd (omega (arith, e, h))) in
-    rw (lacking-refused (run .load) (sampleRefusal (samplesOf (run .past)) (run .tape .filled) (run .account .taken) (run .plan .quarters) x y) e)
-
--- no setpoint or no actual is no sample
-pub no-setpoints : (run : Run) (sp ac : List ℤ) → length sp ≡ 0 → manyOf run (samplesIn sp ac) ≡ record { run = run; refusal = None }
-unfolding manyOf samplesIn
-no-setpoints run [] ac e = refl
-no-setpoints run (x ∷ sp) ac e = absurd (omega arith)
-
-pub no-actuals : (run : Run) (sp ac : List ℤ) → length ac ≡ 0 → manyOf run (samplesIn sp ac) ≡ record { run = run; refusal = None }
-unfolding manyOf samplesIn
-no-actuals run [] ac e = refl
-no-actuals run (x ∷ sp) [] e = refl
-no-actuals run (x ∷ sp) (y ∷ ac) e = absurd (omega arith)
 
 -- WHAT THE ROOM SAYS: no block lacks a setpoint, a quarter hour is to come, and so many samples of it are
 record Roomy (run : Run) (m : ℕ) : Type 0 where

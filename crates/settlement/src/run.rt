@@ -1,11 +1,8 @@
 // A run: one stretch of quarter hours with its contracts. It goes into each call by value and comes back, with the refusal.
-use crate::fitting::all_fit;
-use crate::fitting::put;
+use crate::bare::Bare;
 use crate::grounds::before_samples;
 use crate::grounds::end_refusal;
 use crate::grounds::open_refusal;
-use crate::grounds::places;
-use crate::grounds::take_refusal;
 use crate::load::Load;
 use crate::load::begun_with;
 use crate::load::no_load;
@@ -18,11 +15,7 @@ use arithmetic::money::Cents;
 use arithmetic::whole::above_zero;
 use channel::Channel;
 use contracts::books::Books;
-use quarter::hour::Settled;
-use quarter::hour::quarter_hour;
-use quarter::hour::samples_of;
 use quarter::sheet::Sheets;
-use quarter::sheet::no_sheets;
 use records::account::Account;
 use records::tape::Tape;
 use vocabulary::acceptance::Bounds;
@@ -33,24 +26,22 @@ use vocabulary::interval::Interval;
 use vocabulary::refusal::Refusal;
 use vocabulary::sample::Sample;
 ghost use mathlib.Core.Path.{_≡_};
-ghost use Prim.Native.Nat.{_-_, _≤_, _<_};
-ghost use lib.ListN.{length};
 ghost use Rattle.records.specs.Account.{noAccount};
-ghost use Rattle.records.specs.Tape.{noTape, samplesIn};
-ghost use Rattle.settlement.specs.Fitting.{lengthened};
-ghost use Rattle.settlement.specs.Many.{roomOf, manyOf};
+ghost use Rattle.records.specs.Tape.{noTape};
+ghost use Rattle.settlement.specs.Bare.{bareOf};
+ghost use Rattle.settlement.specs.Many.{roomOf};
 ghost use Rattle.settlement.specs.Run.{freshRun, noRun, runOf, openedOf, untouched, lacksSetpoints, withSetpoint, withBoundsOf};
-ghost use Rattle.settlement.specs.Run.{withSetpointOf, contractWrong, contractedOf, sampledOf, quarterIn, settledOf, takenOf, endedOf, headingOf};
+ghost use Rattle.settlement.specs.Run.{withSetpointOf, contractWrong, contractedOf, sampledOf, takenOf, endedOf, headingOf};
 
 // The past is the channel as it stands where the quarter hour at hand began, and the load tells how much of a block it still lacks; the tape has that
 // quarter hour's samples.
 pub struct Run {
-    plan: Plan,
-    books: Books,
-    past: Channel,
-    load: Load,
-    tape: Tape,
-    account: Account,
+    pub(crate) plan: Plan,
+    pub(crate) books: Books,
+    pub(crate) past: Channel,
+    pub(crate) load: Load,
+    pub(crate) tape: Tape,
+    pub(crate) account: Account,
 }
 
 // What opening answers. A refused opening gives no run: what stands in its place has no quarter hour and refuses every call.
@@ -307,56 +298,60 @@ impl Run {
         }
     }
 
-    // The quarter hour at hand, from its samples.
-    fn settled(self) -> Settled
-        ensures { λ r. ⌜ r ≡ quarterIn self ⌝ }
+    // All of it but the powers of its samples.
+    fn bared(self) -> Bare
+        ensures { λ r. ⌜ r ≡ bareOf self ⌝ }
     {
-        let past = self.past;
-        let tape = self.tape;
-        let setpoints = tape.setpoints;
-        let actuals = tape.actuals;
+        let plan = self.plan;
         let books = self.books;
-        quarter_hour(past, setpoints, actuals, books)
+        let past = self.past;
+        let load = self.load;
+        let account = self.account;
+        Bare {
+            plan: plan,
+            books: books,
+            past: past,
+            load: load,
+            filled: self.tape.filled,
+            account: account,
+        }
     }
 
-    // The run after a quarter hour: the channel led on, its fees and penalties added, room for the next samples.
-    fn after(mut self, quarter: Settled) -> Run
-        requires { ⌜ self .account .taken < 255 ⌝ }
-        ensures { λ r. ⌜ r ≡ settledOf self quarter ⌝ }
+    // Taken apart, for a reader that goes through many samples: their powers go to two arrays that are lent.
+    pub fn apart(self, setpoints: &mut [i32; 900], actuals: &mut [i32; 900]) -> Bare
+        ensures rest { λ r. ⌜ r ≡ bareOf self ⌝ }
+        ensures powers { λ _. ⌜ (now (setpoints .exit) ≡ self .tape .setpoints) × (now (actuals .exit) ≡ self .tape .actuals) ⌝ }
     {
-        let account = self.account;
-        let past = quarter.channel;
-        let sheets = quarter.sheets;
-        let mut more = account.with_sheets(sheets);
-        more.taken = account.taken + 1;
-        self.past = past;
-        self.tape.filled = 0;
-        self.account = more;
-        self
+        let tape = self.tape;
+        let asked = tape.setpoints;
+        let delivered = tape.actuals;
+        *setpoints = asked;
+        *actuals = delivered;
+        self.bared()
+    }
+
+    // How many samples the quarter hour at hand still takes; 0 where the run takes none.
+    pub fn room(self) -> usize
+        ensures { λ r. ⌜ r ≡ roomOf self ⌝ }
+    {
+        self.bared().room()
     }
 
     // The finished quarter hour's figures.
     pub fn take(self) -> Taken
         ensures { λ r. ⌜ r ≡ takenOf self ⌝ }
     {
-        let past = self.past;
-        let samples = samples_of(past);
-        let taken = self.account.taken;
-        let refusal = take_refusal(samples, self.tape.filled, taken, self.plan.quarters);
-        if refusal.number() != 0 {
-            return Taken {
-                run: self,
-                refusal: refusal,
-                quarter: taken,
-                sheets: no_sheets(),
-            };
-        }
-        let quarter = self.settled();
-        let sheets = quarter.sheets;
+        let tape = self.tape;
+        let setpoints = tape.setpoints;
+        let actuals = tape.actuals;
+        let taken = self.bared().take(&setpoints, &actuals);
+        let after = taken.bare;
+        let refusal = taken.refusal;
+        let sheets = taken.sheets;
         Taken {
-            run: self.after(quarter),
+            run: after.whole(&setpoints, &actuals),
             refusal: refusal,
-            quarter: taken,
+            quarter: taken.quarter,
             sheets: sheets,
         }
     }
@@ -391,96 +386,5 @@ impl Run {
             interval: interval,
             lot: past.lot(),
         }
-    }
-}
-
-// Several samples at once, for a reader that has them: the run goes by value once for all of them, not once for each.
-impl Run {
-    // How many samples the quarter hour at hand still takes; 0 where the run takes none.
-    pub fn room(self) -> usize
-        ensures { λ r. ⌜ r ≡ roomOf self ⌝ }
-    {
-        let past = self.past;
-        let samples = samples_of(past);
-        places(
-            self.load.left,
-            samples,
-            self.tape.filled,
-            self.account.taken,
-            self.plan.quarters,
-        )
-    }
-
-    // While a block lacks setpoints the first sample is refused, and no other is looked at.
-    fn first_sample(self, setpoints: &[i32], actuals: &[i32]) -> Answer
-        requires { ⌜ 0 < self .load .left ⌝ }
-        ensures { λ r. ⌜ r ≡ manyOf self (samplesIn (now (setpoints .entry)) (now (actuals .entry))) ⌝ }
-    {
-        if setpoints.len() == 0 {
-            return Answer {
-                run: self,
-                refusal: Refusal::None,
-            };
-        }
-        if actuals.len() == 0 {
-            return Answer {
-                run: self,
-                refusal: Refusal::None,
-            };
-        }
-        let setpoint = setpoints[0];
-        let actual = actuals[0];
-        self.sample(Sample { setpoint, actual })
-    }
-
-    // Samples that all fit, without a test.
-    fn with_fitting(mut self, setpoints: &[i32], actuals: &[i32]) -> Run
-        requires { ⌜ (length (now setpoints) ≡ length (now actuals)) × (length (now setpoints) ≤ 900 - self .tape .filled) ⌝ }
-        ensures { λ r. ⌜ r ≡ lengthened self (now (setpoints .entry)) (now (actuals .entry)) ⌝ }
-    {
-        let at = self.tape.filled;
-        let next = put(&mut self.tape.setpoints, at, setpoints);
-        put(&mut self.tape.actuals, at, actuals);
-        self.tape.filled = next;
-        self
-    }
-
-    // Samples until one is refused, each tested. The tape goes by value here, which copies it: so this is for samples of which some may not fit.
-    fn one_by_one(mut self, setpoints: &[i32], actuals: &[i32]) -> Answer
-        ensures { λ r. ⌜ r ≡ manyOf self (samplesIn (now (setpoints .entry)) (now (actuals .entry))) ⌝ }
-    {
-        let load = self.load;
-        if load.left != 0 {
-            return self.first_sample(setpoints, actuals);
-        }
-        let past = self.past;
-        let tape = self.tape;
-        let recorded = tape.with_samples(
-            past.interval(),
-            self.account.taken,
-            self.plan.quarters,
-            setpoints,
-            actuals,
-        );
-        let after = recorded.tape;
-        let refusal = recorded.refusal;
-        self.tape = after;
-        Answer {
-            run: self,
-            refusal: refusal,
-        }
-    }
-
-    // Samples, one after the other, until one is refused: what `sample` makes of each, without handing the run on for each.
-    pub fn samples(self, setpoints: &[i32], actuals: &[i32]) -> Answer
-        ensures { λ r. ⌜ r ≡ manyOf self (samplesIn (now (setpoints .entry)) (now (actuals .entry))) ⌝ }
-    {
-        if all_fit(self.room(), setpoints, actuals) {
-            return Answer {
-                run: self.with_fitting(setpoints, actuals),
-                refusal: Refusal::None,
-            };
-        }
-        self.one_by_one(setpoints, actuals)
     }
 }

@@ -1,16 +1,20 @@
 -- How a call's answer and bytes tell a turn.
 use Prim.Native.Nat.{ℕ, _+_, _%_, _^_, _≤_, _<_}
 use mathlib.Core.Path.{_≡_, refl, ap, sym, subst, _∙_}
-use mathlib.Core.Bool.{true, false, cond}
+use mathlib.Core.Bool.{Bool, true, false, cond}
 use mathlib.Core.List.{List}
 use native.Mathlib.Omega.{arith}
 use lib.ListN.{length}
+use lib.IntN.{ℤ}
 use lib.Dec.{leb·zero}
+use borrow.Author.Tests.{le-leb}
 use Rattle.vocabulary.specs.declared.refusal.Refusal.{Refusal}
 use Rattle.vocabulary.specs.declared.refusal.Refusal.the-variants.{NoEnd}
 use Rattle.vocabulary.specs.Refusals.{numberOf, accepted}
 use Rattle.vocabulary.proofs.RefusalLaws.{none-refused, some-refused}
-use Rattle.sheets.specs.Buffer.{bufferLength, printAnswer, printInto}
+use Rattle.sheets.specs.Buffer.{bufferLength, printAnswer, printInto, over}
+use Rattle.sheets.specs.Sheet.{quarterText}
+use Rattle.sheets.proofs.Yielding as yields
 use Rattle.sheets.specs.declared.Printed.{Printed}
 use Rattle.sheets.proofs.Printing.{room-enough}
 use Rattle.sheets.specs.declared.Printed.the-variants.{Length}
@@ -21,7 +25,12 @@ use Rattle.reading.specs.declared.Line.the-variants as L
 use Rattle.text.specs.Desk.{Turn, Tells, deskAt, refusedTurn, openTurn, answeredTurn, sampleTurn, endTurn, unless}
 use Rattle.text.specs.Desk.{takenText, quarterTurn, firstTurn, nextTurn, turnAt, lineTurn, closedAt, finishAt, finishTurn, answerOf}
 use Rattle.text.specs.Serving.{Turned, toldBy, early, late, misplacedAt, servedTurn, askedOf, followedTurn, placedTurn}
+use Rattle.text.specs.Serving.{toldWith, bareTurned, Settles}
+use Rattle.settlement.specs.declared.bare.Bare.{Bare}
+use Rattle.settlement.specs.declared.bare.BareTaken.{BareTaken}
 use Rattle.settlement.specs.declared.run.Run.{Run}
+use Rattle.settlement.specs.Bare.{bareOf, wholeOf, bareTakenOf}
+use Rattle.settlement.proofs.BareLaws.{taken-whole}
 use Rattle.settlement.specs.Run.{takenOf}
 use Rattle.settlement.specs.Many.{roomOf}
 use Rattle.settlement.proofs.Many.{not-full}
@@ -29,6 +38,7 @@ use Rattle.text.specs.declared.desk.Stage.{Stage}
 use Rattle.text.specs.declared.desk.Stage.the-variants.{Empty, Open, Closed}
 use Rattle.text.specs.declared.desk.Desk.{Desk}
 use Rattle.text.specs.declared.desk.Told.{Told}
+use Rattle.text.specs.declared.desk.BareTold.{BareTold}
 
 -- the text was printed, if there was room for it
 pub turned : {out out′ : List ℕ} {turn : Turn} {p : Printed} {r : Told} → r ≡ toldBy (turn .desk) p → p ≡ printAnswer out (turn .text)
@@ -148,3 +158,33 @@ pub waits : (run : Run) → 0 < roomOf run → quarterTurn run ≡ quiet (deskAt
 unfolding quarterTurn takenOf
 waits run h =
     ap (λ (x : Refusal). cond (accepted x) (record { desk = deskAt Open (takenOf run .run); text = takenText (takenOf run) }) (quiet (deskAt Open run))) (not-full run h)
+
+-- ---- samples of which a reader has the powers
+
+module _ (bare : Bare) (sp ac : List ℤ) where
+  abbrev run : Run
+  run = wholeOf bare sp ac
+
+  -- the run that is taken from has them where they were
+  pub taken-told : {t : BareTaken} {p : Printed} {out out′ : List ℕ} → t ≡ bareTakenOf (takenOf run) → accepted (t .refusal) ≡ true
+      → p ≡ printAnswer out (quarterText (t .quarter) (t .sheets)) → out′ ≡ printInto out (quarterText (t .quarter) (t .sheets))
+      → length (quarterText (t .quarter) (t .sheets)) ≤ bufferLength
+      → Turned out (quarterTurn run) (toldWith (record { bare = t .bare; printed = p }) sp ac) out′
+  unfolding quarterTurn takenText
+  taken-told {t} {p} e a answer bytes room =
+      let a′ = rw e at a in
+      let same : toldWith (record { bare = t .bare; printed = p }) sp ac ≡ toldBy (deskAt Open (takenOf run .run)) p =
+      ap (λ (b : Bare). toldBy (deskAt Open (wholeOf b sp ac)) p) (ap (λ (x : BareTaken). x .bare) e) ∙ ap (λ (r : Run). toldBy (deskAt Open r) p) (taken-whole run) in
+      rw a′ (turned same (rw e at answer) (rw e at bytes) (rw e at room))
+
+  -- in a long buffer there is room for the quarter hour
+  pub settles : {r : BareTold} {out out′ : List ℕ} → bufferLength ≤ length out → Turned out (quarterTurn run) (toldWith r sp ac) out′ → Settles out bare sp ac r out′
+  settles {r} {out} h u =
+      let text = quarterTurn run .text in
+      let e : printAnswer out text ≡ Length (length text) = room-enough out text bufferLength (u .room) h in
+      let room : length text ≤ length out = omega (arith, u .room, h) in
+      yields.long-enough _ bufferLength out _ (bareTurned (quarterTurn run)) text h
+      (ap (λ (x : Told). record { bare = bareOf (x .desk .run); printed = x .printed }) (u .told)
+      ∙ ap (λ (x : Printed). record { bare = bareOf (quarterTurn run .desk .run); printed = x }) e)
+      (u .bytes ∙ ap (λ (b : Bool). cond b (over text out) out) (le-leb _ _ room))
+      room

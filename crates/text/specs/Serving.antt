@@ -3,13 +3,17 @@ use Prim.Native.Nat.{ℕ, _≤_}
 use mathlib.Core.Path.{_≡_}
 use mathlib.Core.List.{List}
 use lib.ListN.{length}
+use lib.IntN.{ℤ}
 use Rattle.vocabulary.specs.declared.refusal.Refusal.{Refusal}
 use Rattle.vocabulary.specs.declared.refusal.Refusal.the-variants.{None, WrongMoment, BadLine}
+use Rattle.settlement.specs.declared.bare.Bare.{Bare}
 use Rattle.settlement.specs.declared.run.Run.{Run}
 use Rattle.settlement.specs.declared.run.Answer.{Answer}
 use Rattle.settlement.specs.Run.{withBoundsOf, withSetpointOf, contractedOf, sampledOf, headingOf}
-use Rattle.sheets.specs.Buffer.{bufferLength, printAnswer, printInto}
+use Rattle.settlement.specs.Bare.{bareOf, wholeOf}
+use Rattle.sheets.specs.Buffer.{bufferLength, printAnswer, printInto, Yields}
 use Rattle.sheets.specs.declared.Printed.{Printed}
+use Rattle.sheets.specs.declared.Printed.the-variants.{Length, TooShort}
 use Rattle.reading.specs.Line.{identifierOf}
 use Rattle.reading.specs.declared.Line.{Line}
 use Rattle.reading.specs.declared.Line.the-variants as L
@@ -18,6 +22,7 @@ use Rattle.text.specs.declared.desk.Stage.{Stage}
 use Rattle.text.specs.declared.desk.Stage.the-variants.{Empty, Open, Closed}
 use Rattle.text.specs.declared.desk.Desk.{Desk}
 use Rattle.text.specs.declared.desk.Told.{Told}
+use Rattle.text.specs.declared.desk.BareTold.{BareTold}
 use Rattle.text.specs.Desk.{Turn, deskAt, headOf, unless, refusedTurn, openTurn, answeredTurn, quarterTurn, sampleTurn, endTurn}
 
 -- what is wrong with a line before the header
@@ -93,3 +98,19 @@ pub record Turned (out : List ℕ) (turn : Turn) (r : Told) (out′ : List ℕ) 
   pub told : r ≡ toldBy (turn .desk) (printAnswer out (turn .text))
   pub bytes : out′ ≡ printInto out (turn .text)
   pub room : length (turn .text) ≤ bufferLength
+
+-- ---- samples of which a reader has the powers
+
+-- what is told, with the powers again
+abbrev pub toldWith : BareTold → List ℤ → List ℤ → Told
+toldWith r setpoints actuals = toldBy (deskAt Open (wholeOf (r .bare) setpoints actuals)) (r .printed)
+
+-- the turn of a run without them: its run, and what is printed
+abbrev pub bareTurned : Turn → BareTold
+bareTurned turn = record { bare = bareOf (turn .desk .run); printed = Length (length (turn .text)) }
+
+-- after samples that are counted: the quarter hour is taken if it is full
+abbrev pub Settles : List ℕ → Bare → List ℤ → List ℤ → BareTold → List ℕ → Type 0
+Settles out bare setpoints actuals r out′ =
+    Yields (λ (t : BareTold). t .printed) bufferLength out (record { bare = bare; printed = TooShort }) (bareTurned (quarterTurn (wholeOf bare setpoints actuals)))
+    (quarterTurn (wholeOf bare setpoints actuals) .text) r out′

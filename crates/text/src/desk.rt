@@ -3,9 +3,9 @@ use arithmetic::date::Date;
 use reading::Line;
 use reading::identifier;
 use reading::read;
+use settlement::bare::Bare;
 use settlement::run::Answer;
 use settlement::run::Run;
-use settlement::run::Taken;
 use sheets::BUFFER;
 use sheets::Printed;
 use sheets::print_closing;
@@ -16,15 +16,12 @@ use vocabulary::header::Header;
 use vocabulary::header::Lot;
 use vocabulary::refusal::Refusal;
 ghost use mathlib.Core.Path.{_≡_};
-ghost use Prim.Native.Nat.{_≤_};
-ghost use lib.ListN.{length};
-ghost use Rattle.sheets.specs.Buffer.{bufferLength, printAnswer, printInto};
 ghost use Rattle.sheets.specs.declared.Printed.the-variants.{Length};
-ghost use Rattle.records.specs.Tape.{samplesIn};
+ghost use Rattle.settlement.specs.Bare.{wholeOf};
 ghost use Rattle.reading.specs.Line.{lineOf};
-ghost use Rattle.text.specs.Desk.{Tells, deskAt, emptyDesk, answerOf, refusedTurn, openTurn, takenText, quarterTurn};
-ghost use Rattle.text.specs.Desk.{samplesTurn, roomAt, endTurn, lineTurn, finishTurn, closedAt};
-ghost use Rattle.text.specs.Serving.{Turned, toldBy, early, late, misplacedAt, begunTurn, unaskedOf, askedOf, followedTurn, servedTurn, placedTurn};
+ghost use Rattle.text.specs.Desk.{Tells, deskAt, emptyDesk, answerOf, refusedTurn, openTurn, quarterTurn};
+ghost use Rattle.text.specs.Desk.{endTurn, lineTurn, finishTurn, closedAt};
+ghost use Rattle.text.specs.Serving.{Turned, toldBy, early, late, misplacedAt, begunTurn, unaskedOf, askedOf, followedTurn, servedTurn, placedTurn, toldWith, Settles};
 
 // Before the header; while the run is open; after the end or a refusal, when nothing is read any more.
 pub enum Stage {
@@ -34,13 +31,19 @@ pub enum Stage {
 }
 
 pub struct Desk {
-    run: Run,
-    stage: Stage,
+    pub run: Run,
+    pub stage: Stage,
 }
 
 // What the desk answers to a line. Where the buffer is too short, the desk is the one that came in.
 pub struct Told {
     pub desk: Desk,
+    pub printed: Printed,
+}
+
+// What it answers to samples, of which a reader has the powers.
+pub struct BareTold {
+    pub bare: Bare,
     pub printed: Printed,
 }
 
@@ -58,13 +61,45 @@ fn kept(before: Desk, told: Told) -> Told
     }
 }
 
-// The lines of a quarter hour that was taken.
-fn print_taken(taken: Taken, out: &mut [u8]) -> Printed
-    ensures answer { λ r. ⌜ r ≡ printAnswer (now (out .entry)) (takenText taken) ⌝ }
-    ensures bytes { λ _. ⌜ now (out .exit) ≡ printInto (now (out .entry)) (takenText taken) ⌝ }
-    ensures room { λ _. ⌜ length (takenText taken) ≤ bufferLength ⌝ }
+// After samples: the quarter hour is taken once no room is left in it. A run that waits for none is left as it is.
+fn take_full(bare: Bare, setpoints: &[i32; 900], actuals: &[i32; 900], out: &mut [u8]) -> BareTold
+    ensures { λ r. ⌜ Turned (now (out .entry)) (quarterTurn (wholeOf bare (now (setpoints .entry)) (now (actuals .entry))))
+        (toldWith r (now (setpoints .entry)) (now (actuals .entry))) (now (out .exit)) ⌝ }
 {
-    print_quarter(out, taken.quarter, taken.sheets)
+    if bare.room() != 0 {
+        return BareTold {
+            bare: bare,
+            printed: Printed::Length(0),
+        };
+    }
+    let taken = bare.take(setpoints, actuals);
+    let refusal = taken.refusal;
+    if refusal.number() != 0 {
+        return BareTold {
+            bare: bare,
+            printed: Printed::Length(0),
+        };
+    }
+    let printed = print_quarter(out, taken.quarter, taken.sheets);
+    let after = taken.bare;
+    BareTold {
+        bare: after,
+        printed: printed,
+    }
+}
+
+// Samples for an open desk, which a reader has counted: their powers are in their places, in range, and no more than there is room for. With a buffer of fewer
+// than BUFFER bytes nothing is done.
+pub fn samples(bare: Bare, setpoints: &[i32; 900], actuals: &[i32; 900], out: &mut [u8]) -> BareTold
+    ensures { λ r. ⌜ Settles (now (out .entry)) bare (now (setpoints .entry)) (now (actuals .entry)) r (now (out .exit)) ⌝ }
+{
+    if out.len() < BUFFER {
+        return BareTold {
+            bare: bare,
+            printed: Printed::TooShort,
+        };
+    }
+    take_full(bare, setpoints, actuals, out)
 }
 
 // Before the header any other line comes too early.
@@ -206,44 +241,17 @@ impl Desk {
         Desk::begun(opened.run, out)
     }
 
-    // After samples: the quarter hour is taken once no room is left in it. A run that waits for none is left as it is.
+    // After a sample.
     fn quarter(run: Run, out: &mut [u8]) -> Told
         ensures { λ r. ⌜ Turned (now (out .entry)) (quarterTurn run) r (now (out .exit)) ⌝ }
     {
-        if run.room() != 0 {
-            return Desk::told(run, Stage::Open, Printed::Length(0));
-        }
-        let taken = run.take();
-        let refusal = taken.refusal;
-        if refusal.number() != 0 {
-            return Desk::told(run, Stage::Open, Printed::Length(0));
-        }
-        let printed = print_taken(taken, out);
-        Desk::told(taken.run, Stage::Open, printed)
-    }
-
-    // Several samples, for a reader that has them: in range, and no more than there is room for. A long buffer is never too short, so that nothing
-    // is kept beside it to be put back.
-    pub fn samples(self, setpoints: &[i32], actuals: &[i32], out: &mut [u8]) -> Told
-        ensures { λ r. ⌜ Tells (now (out .entry)) self (samplesTurn self (samplesIn (now (setpoints .entry)) (now (actuals .entry)))) r (now (out .exit)) ⌝ }
-    {
-        let answer = self.run.samples(setpoints, actuals);
-        if out.len() < BUFFER {
-            return kept(self, Desk::quarter(answer.run, out));
-        }
-        Desk::quarter(answer.run, out)
-    }
-
-    // How many samples more are taken before a quarter hour is full; none where no run is open.
-    pub fn room(self) -> usize
-        ensures { λ r. ⌜ r ≡ roomAt (self .stage) (self .run) ⌝ }
-    {
-        let stage = self.stage;
-        match stage {
-            Stage::Empty => 0,
-            Stage::Open => self.run.room(),
-            Stage::Closed => 0,
-        }
+        let mut setpoints = [0i32; 900];
+        let mut actuals = [0i32; 900];
+        let bare = run.apart(&mut setpoints, &mut actuals);
+        let told = take_full(bare, &setpoints, &actuals, out);
+        let after = told.bare;
+        let printed = told.printed;
+        Desk::told(after.whole(&setpoints, &actuals), Stage::Open, printed)
     }
 
     fn end(self, number: u64, out: &mut [u8]) -> Told
@@ -316,14 +324,17 @@ impl Desk {
         }
     }
 
-    // One complete line of the input, without its LF; lines count from 1.
+    // One complete line of the input, without its LF; lines count from 1. A long buffer is never too short, so that no desk is kept beside it to be put back.
     pub fn line(self, number: u64, line: &[u8], out: &mut [u8]) -> Told
         ensures { λ r. ⌜ Tells (now (out .entry)) self (lineTurn self number (now (line .entry))) r (now (out .exit)) ⌝ }
     {
         if self.is_closed() {
             return self.silent();
         }
-        kept(self, self.turn(number, line, out))
+        if out.len() < BUFFER {
+            return kept(self, self.turn(number, line, out));
+        }
+        self.turn(number, line, out)
     }
 
     // The input ended, after so many complete lines.

@@ -7,11 +7,8 @@ use Rattle.feed.proofs.Reader.feed.Tie as tie
 returns : tie.Need-returns
 returns c = too-short _ _ _ (c .if1 .taken)
 
-slice-aggregate-read-on : tie.Need-slice-aggregate-read-on
-slice-aggregate-read-on c = search needs
-
-slice-aggregate-read-on-2 : tie.Need-slice-aggregate-read-on-2
-slice-aggregate-read-on-2 c = search needs
+apart-requires : tie.Need-apart-requires
+apart-requires c κs = search needs
 
 read-on-requires : tie.Need-read-on-requires
 read-on-requires c κs = search needs
@@ -25,17 +22,11 @@ same-length c = search needs
 returns-2 : tie.Need-returns-2
 returns-2 c =
     let at-read-on = c .before .before .before .before .before in
-    let at-if1 = at-read-on .before .before .before .before .before .before in
-    fed-whole (at-if1 .if1 .left) (c .fed-by .ensures) (at-read-on .read-on .ensures)
+    let at-apart = at-read-on .before .before .before .before in
+    let at-if1 = at-apart .before .before .before .before .before .before in
+    let apart = at-apart .apart .ensures in
+    let reads = rw (apart .0, apart .1 .0, apart .1 .1) at (at-read-on .read-on .ensures) in
+    fed-whole (at-if1 .if1 .left) (c .fed-by .ensures) reads
 
 pub feed-spec : {M : Type 1} → statement M
-feed-spec =
-    tie.close
-    (tie.spec
-    returns
-    slice-aggregate-read-on
-    slice-aggregate-read-on-2
-    read-on-requires
-    fed-by-requires
-    same-length
-    returns-2)
+feed-spec = tie.close (tie.spec returns apart-requires read-on-requires fed-by-requires same-length returns-2)

@@ -1,20 +1,19 @@
 -- `settlement::run::Run::room` meets its contract.
 -- Assumes nothing.
 use borrow.Author.Needs.{needs}
-use mathlib.Core.Path.{_∙_}
-use Rattle.settlement.specs.Many.{roomOf}
 use Rattle.settlement.proofs.run.Run.room.Statement.{statement}
 use Rattle.settlement.proofs.run.Run.room.Tie as tie
 
-samples-of-requires : tie.Need-samples-of-requires
-samples-of-requires c κs = search needs
+bared-requires : tie.Need-bared-requires
+bared-requires c κs = search needs
 
-places-requires : tie.Need-places-requires
-places-requires c κs = search needs
+room-requires : tie.Need-room-requires
+room-requires c κs = search needs
 
 returns : tie.Need-returns
-unfolding roomOf
-returns c = c .places .ensures ∙ rw (c .before .samples-of .ensures .0)
+returns c =
+    let run = c .before .before .args .self in
+    rw (c .before .bared .ensures) at (c .room .ensures (run .tape .setpoints) (run .tape .actuals))
 
 pub room-spec : {M : Type 1} → statement M
-room-spec = tie.close (tie.spec samples-of-requires places-requires returns)
+room-spec = tie.close (tie.spec bared-requires room-requires returns)
