@@ -142,6 +142,9 @@ quarter-whole bare sp ac = go (accepted (takenOf run .refusal))
     run : Run
     run = wholeOf bare sp ac
 
-    go : (b : Bool) → let turn = cond b (record { desk = deskAt Open (takenOf run .run); text = takenText (takenOf run) }) (quiet (deskAt Open run)) in deskAt Open (wholeOf (bareOf (turn .desk .run)) sp ac) ≡ turn .desk
+    turn : Bool → Turn
+    turn b = cond b (record { desk = deskAt Open (takenOf run .run); text = takenText (takenOf run) }) (quiet (deskAt Open run))
+
+    go : (b : Bool) → deskAt Open (wholeOf (bareOf (turn b .desk .run)) sp ac) ≡ turn b .desk
     go true = ap (deskAt Open) (taken-whole run)
     go false = refl

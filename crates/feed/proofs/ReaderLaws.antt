@@ -556,7 +556,8 @@ pub come-first : (start : Reader) (block out : List ℕ) {on closed : Bool} → 
 come-first start block out e c = come start block out start 0 0 e c refl (λ z. (so-first start block, refl)) (λ h. absurd (omega arith))
 
 -- and after one more
-pub come-on : (start : Reader) {block out₀ : List ℕ} {reader : Reader} {i : ℕ} {r : Left} {out out′ : List ℕ} {on closed : Bool} → Going start block out₀ reader i out → Moves reader block i out r out′ → on ≡ goesOn (r .printed) closed (i + r .used) (length block) → closed ≡ closedOf (r .desk)
+pub come-on : (start : Reader) {block out₀ : List ℕ} {reader : Reader} {i : ℕ} {r : Left} {out out′ : List ℕ} {on closed : Bool}
+    → Going start block out₀ reader i out → Moves reader block i out r out′ → on ≡ goesOn (r .printed) closed (i + r .used) (length block) → closed ≡ closedOf (r .desk)
     → Come start block out₀ (leftBy r) (i + r .used) (r .printed) out′ on
 come-on start {block} {out₀} {reader} {i} {r} {out} {out′} g m e c =
     let m₀ = other-out (g .same) m in
