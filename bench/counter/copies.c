@@ -1,15 +1,13 @@
-// Counts the bytes that a program has the C library copy and blank. Preloaded
-// (LD_PRELOAD), it stands in for memcpy, memmove and memset; at the program's
-// end it writes "copied BLANKED" in bytes to the file that COPIES names.
-#define _GNU_SOURCE
+// Counts the bytes that a program has the C library copy and blank. Preloaded (LD_PRELOAD), it stands in for memcpy,
+// memmove and memset; at the program's end it writes two numbers to the file that COPIES names: the bytes copied, and
+// the bytes blanked.
 #include <stddef.h>
 #include <stdio.h>
 #include <stdlib.h>
 
 static size_t copied, blanked;
 
-// One byte after the other, kept from the compiler, which would make a call of
-// the function itself of the loop.
+// One byte after the other; the compiler, which would make a call of the function itself of the loop, is kept from it.
 static void *forward(char *to, const char *from, size_t count) {
   for (size_t k = 0; k < count; k++) {
     to[k] = from[k];
@@ -46,11 +44,12 @@ void *memset(void *to, int byte, size_t count) {
 }
 
 __attribute__((destructor)) static void told(void) {
-  size_t all[] = {copied, blanked};
+  // read first: opening a file may copy
+  size_t copies = copied, blanks = blanked;
   const char *name = getenv("COPIES");
   FILE *file = name ? fopen(name, "w") : NULL;
   if (file) {
-    fprintf(file, "%zu %zu\n", all[0], all[1]);
+    fprintf(file, "%zu %zu\n", copies, blanks);
     fclose(file);
   }
 }
