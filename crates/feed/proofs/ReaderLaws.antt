@@ -7,13 +7,12 @@ use native.Mathlib.Omega.{arith}
 use native.Mathlib.Nat.{add-zero}
 use borrow.Author.Tests.{le-ltb, lt-ltb, le-leb, ltb-true, ltb-false}
 use lib.Dec.{leb, ltb}
-use lib.ListN.{length, take, drop, length-drop, length-append, drop-of-length-le}
-use lib.Seq.{drop-drop, sets, length-sets}
+use lib.ListN.{length, take, drop, length-drop, drop-of-length-le}
+use lib.Seq.{drop-drop, sets}
 use lib.IntN.{ℤ}
 use Rattle.arithmetic.specs.Whole.{leastOf}
 use Rattle.arithmetic.proofs.Booleans.{true-false}
 use Rattle.vocabulary.specs.declared.sample.Sample.{Sample}
-use Rattle.fields.proofs.DigitLaws.{to-end}
 use Rattle.lines.specs.Feed as lines
 use Rattle.lines.specs.Feed.{Start, Outcome, stay, forth, onTurn, onward, lineAt}
 use Rattle.lines.specs.Gathering.{freshOf, pastOf, gatheredOf}
@@ -43,7 +42,7 @@ use Rattle.text.specs.declared.desk.Stage.the-variants.{Open}
 use Rattle.text.specs.declared.desk.Desk.{Desk}
 use Rattle.text.specs.declared.desk.Told.{Told}
 use Rattle.feed.specs.Reader.{closedOf, feedOf, finishOf, readerOf, unfedOf, fedOf, Yields}
-use Rattle.feed.specs.Steps.{readerWith, deskWith, Finds, Stretches, lineFound, afterOf, turnBy, Steps, Left, leftBy, Moves, goesOn, Reads, fedBy, endedBy}
+use Rattle.feed.specs.Steps.{readerWith, deskWith, Finds, lineFound, afterOf, turnBy, Steps, Left, leftBy, Moves, goesOn, Reads, fedBy, endedBy}
 use Rattle.feed.specs.declared.Reader.{Reader}
 use Rattle.feed.specs.declared.BareDesk.{BareDesk}
 use Rattle.feed.specs.declared.Stepped.{Stepped}
@@ -320,10 +319,10 @@ pub as-steps : {out out′ : List ℕ} {turn turn′ : Turn} {r : Stepped} {sp a
 as-steps {out} {out′} {r = r} {sp = sp} {ac = ac} e s = subst (λ (x : Turn). Steps out x r sp ac out′) e s
 
 -- the same step, as a desk with the powers of its samples tells it
-abbrev toldBy : Stepped → List ℤ → List ℤ → Told
-toldBy r sp ac = record { desk = deskWith (r .desk) sp ac; printed = Length (r .printed) }
+abbrev steppedTold : Stepped → List ℤ → List ℤ → Told
+steppedTold r sp ac = record { desk = deskWith (r .desk) sp ac; printed = Length (r .printed) }
 
-as-told : {out out′ : List ℕ} {turn : Turn} {r : Stepped} {sp ac : List ℤ} → Steps out turn r sp ac out′ → Told-whole out turn (toldBy r sp ac) out′
+as-told : {out out′ : List ℕ} {turn : Turn} {r : Stepped} {sp ac : List ℤ} → Steps out turn r sp ac out′ → Told-whole out turn (steppedTold r sp ac) out′
 as-told s = record { desk = s .desk; printed = ap Length (s .printed); bytes = s .bytes; room = s .room }
 
 -- samples that are counted
