@@ -13,7 +13,7 @@ use vocabulary::acceptance::Bounds;
 use vocabulary::interval::Interval;
 
 // The largest and the smallest setpoint of the near window, and the most and the least of the spread window.
-#[derive(Drop)]
+#[derive(Clone, Copy)]
 pub struct Seen {
     pub highest: i32,
     pub lowest: i32,

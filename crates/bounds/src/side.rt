@@ -5,7 +5,7 @@ ghost use Rattle.bounds.specs.Side.{farther_of};
 use arithmetic::whole::{larger, smaller};
 
 // One rule, seen from two sides.
-#[derive(Drop)]
+#[derive(Clone, Copy)]
 pub enum Side {
     Upper,
     Lower,

@@ -9,7 +9,7 @@ const ROWS: usize = 200;
 const SHARES: usize = 6_400;
 
 // The reader after some input, and whether that was all of it.
-#[derive(Drop)]
+#[derive(Clone, Copy)]
 struct Passed {
     reader: Reader,
     ended: bool,

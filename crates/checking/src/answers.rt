@@ -12,14 +12,14 @@ use vocabulary::header::Header;
 use vocabulary::refusal::Refusal;
 
 // What a line asks for before the header.
-#[derive(Drop)]
+#[derive(Clone, Copy)]
 pub enum Opening {
     Header(Header),
     Refused(Refusal),
 }
 
 // What follows a line that was taken: the quarter hour may be full, or the run has ended.
-#[derive(Drop)]
+#[derive(Clone, Copy)]
 pub enum Follows {
     Quarter,
     End,

@@ -23,14 +23,14 @@ use vocabulary::header::{Header, Lot};
 use vocabulary::refusal::Refusal;
 
 // A line that was refused, and why.
-#[derive(Drop)]
+#[derive(Clone, Copy)]
 pub struct Fault {
     line: u64,
     refusal: Refusal,
 }
 
 // Before the header; while the run is open; after E, with the number of U lines so far; after a refusal, when nothing is read any more.
-#[derive(Drop)]
+#[derive(Clone, Copy)]
 pub enum Stage {
     Empty,
     Open,
@@ -39,13 +39,13 @@ pub enum Stage {
 }
 
 // At the input's end: a refusal, or the verdict after so many U lines.
-#[derive(Drop)]
+#[derive(Clone, Copy)]
 pub enum Ending {
     Refused(Fault),
     Ruled(usize),
 }
 
-#[derive(Drop)]
+#[derive(Clone, Copy)]
 pub struct Checker {
     run: Run,
     stage: Stage,

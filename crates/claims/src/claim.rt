@@ -9,7 +9,7 @@ ghost use Rattle.claims.specs.Views.{joined_of};
 use arithmetic::energy::Kwh;
 
 // A contract's energies before the surplus is handed out.
-#[derive(Drop)]
+#[derive(Clone, Copy)]
 pub struct Claim {
     pub setpoint: Kwh,
     pub actual: Kwh,
@@ -21,7 +21,7 @@ pub struct Claim {
 }
 
 // What no contract claims: the energies above the last limit.
-#[derive(Drop)]
+#[derive(Clone, Copy)]
 pub struct Rest {
     pub setpoint: Kwh,
     pub actual: Kwh,

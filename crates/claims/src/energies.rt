@@ -14,7 +14,7 @@ use series::cutting::{Pieces, cut};
 use vocabulary::direction::Direction;
 
 // The sums over a quarter hour: of what the contracts have slices of, by slice, and of the others.
-#[derive(Drop)]
+#[derive(Clone, Copy)]
 pub struct Sums {
     pub setpoint: Pieces,
     pub actual: Pieces,

@@ -16,7 +16,7 @@ use contracts::terms::limits;
 use vocabulary::direction::Direction;
 
 // The energies of one direction: the pool's, what no contract takes, and each contract's claim. Under-delivery and shortfall are the pool's own, and not the contracts' sums.
-#[derive(Drop)]
+#[derive(Clone, Copy)]
 pub struct Energies {
     pub setpoint: Kwh,
     pub actual: Kwh,
@@ -29,7 +29,7 @@ pub struct Energies {
 }
 
 // Those of both, and the channel after the quarter hour.
-#[derive(Drop)]
+#[derive(Clone, Copy)]
 pub struct Measured {
     pub channel: Channel,
     pub positive: Energies,

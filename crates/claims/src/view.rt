@@ -13,7 +13,7 @@ use values::value::{Quantity, amount};
 use vocabulary::direction::Direction;
 
 // The quantities of one part that are summed over a quarter hour, but for the actual, in units.
-#[derive(Drop)]
+#[derive(Clone, Copy)]
 pub struct Amounts {
     pub setpoint: u64,
     pub acceptance: u64,
@@ -25,7 +25,7 @@ pub struct Amounts {
 }
 
 // How many parts are not idle, how many fall short of the inner bound, and the sums of those quantities that no contract has a slice of.
-#[derive(Drop)]
+#[derive(Clone, Copy)]
 pub struct Seen {
     pub count: usize,
     pub short: usize,

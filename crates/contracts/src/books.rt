@@ -8,7 +8,7 @@ use vocabulary::contract::Contract;
 use vocabulary::direction::Direction;
 use vocabulary::refusal::Refusal;
 
-#[derive(Drop)]
+#[derive(Clone, Copy)]
 pub struct Books {
     positive: Book,
     negative: Book,

@@ -7,7 +7,7 @@ use crate::book::Awarded;
 use arithmetic::power::Power;
 
 // What a contract was awarded, in kW, and its price in cent per MWh.
-#[derive(Drop)]
+#[derive(Clone, Copy)]
 pub struct Terms {
     pub award: u32,
     pub price: i32,

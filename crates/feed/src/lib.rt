@@ -1,5 +1,7 @@
 // Blocks of an input for the desk, in constant memory, however the input is cut: stretches of sample lines go by the reader of stretches,
 // every other line by the reader of single lines. No line's meaning depends on which of them read it.
+#![tactic(auto)]
+
 ghost use Rattle.std.specs.Prelude.{◌≡◌, List, ◌+◌, ◌-◌, ◌≤◌, ◌<◌, ℤ, length, take, drop};
 ghost use Rattle.lines.specs.Gathering.{gathered_of};
 ghost use Rattle.lines.specs.Handing.{held_by};
@@ -16,7 +18,7 @@ use sheets::{BUFFER, Printed};
 use text::desk::{Desk, Stage, Told, samples};
 
 // The line at hand, and the desk.
-#[derive(Drop)]
+#[derive(Clone, Copy)]
 pub struct Reader {
     gatherer: Gatherer,
     desk: Desk,
@@ -24,7 +26,7 @@ pub struct Reader {
 
 // What a call answers: the reader after it, how many bytes of the block it used, and what it printed. A call that is lent fewer than BUFFER
 // bytes does nothing, and says so.
-#[derive(Drop)]
+#[derive(Clone, Copy)]
 pub struct Fed {
     pub reader: Reader,
     pub used: usize,
@@ -33,7 +35,7 @@ pub struct Fed {
 
 // What stands next in a block, and in how many bytes: a stretch of samples, a line with its end, or the rest of a block that ends within one. The
 // gatherer is the one after it, and of a line the one that holds it.
-#[derive(Drop)]
+#[derive(Clone, Copy)]
 struct Found {
     gatherer: Gatherer,
     used: usize,
@@ -42,21 +44,21 @@ struct Found {
 }
 
 // A desk while a block is read: the powers of its samples lie in two arrays beside it, so that it is handed on without them.
-#[derive(Drop)]
+#[derive(Clone, Copy)]
 struct BareDesk {
     bare: Bare,
     stage: Stage,
 }
 
 // The desk after a step, and how many bytes were printed.
-#[derive(Drop)]
+#[derive(Clone, Copy)]
 struct Stepped {
     desk: BareDesk,
     printed: usize,
 }
 
 // Gatherer and desk after some bytes of a block, and how many bytes were printed.
-#[derive(Drop)]
+#[derive(Clone, Copy)]
 struct Moved {
     gatherer: Gatherer,
     desk: BareDesk,

@@ -12,7 +12,7 @@ use vocabulary::direction::Direction;
 use vocabulary::refusal::Refusal;
 
 // What a U line has to say: the quarter hour, the direction, and the contract by its place in its list.
-#[derive(Drop)]
+#[derive(Clone, Copy)]
 pub struct Place {
     quarter: usize,
     direction: Direction,

@@ -1,4 +1,6 @@
 // Blocks of input bytes become lines, in constant memory, however the input is cut into blocks and whatever bytes it has.
+#![tactic(auto)]
+
 ghost use Rattle.std.specs.Prelude.{◌≡◌, length as size, ◌==◌};
 ghost use Rattle.lines.specs.Gathering.{start_at, empty_gatherer, fresh_of, past_of, Starts, gathered_of};
 
@@ -8,7 +10,7 @@ const LF: u8 = 10;
 const KEPT: usize = 81;
 
 // The line at hand, as far as it was read, and how many complete lines there are so far.
-#[derive(Drop)]
+#[derive(Clone, Copy)]
 pub struct Gatherer {
     bytes: [u8; KEPT],
     length: usize,
@@ -17,7 +19,7 @@ pub struct Gatherer {
 
 // What a block gave: if a line is complete, the gatherer holds it and counts it, and `used` bytes of the block were read,
 // its LF the last of them. If not, the whole block was read.
-#[derive(Drop)]
+#[derive(Clone, Copy)]
 pub struct Gathered {
     pub gatherer: Gatherer,
     pub used: usize,

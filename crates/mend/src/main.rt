@@ -10,7 +10,7 @@ use mendfeed::Reader;
 use sheets::Printed;
 
 // The reader after some input, and whether all that it printed could be written out.
-#[derive(Drop)]
+#[derive(Clone, Copy)]
 struct Passed {
     reader: Reader,
     wrote: bool,

@@ -1,5 +1,7 @@
 // Blocks of a recording for the mender, in constant memory, however it is cut. Most lines print something, so what they print is gathered in the lent buffer,
 // and a call goes on as long as there is room for one line more.
+#![tactic(auto)]
+
 ghost use Rattle.std.specs.Prelude.{◌≡◌, ◌-◌, ◌<◌, ◌≤◌, true, false, length, take};
 ghost use Rattle.lines.specs.Feed.{Start};
 ghost use Rattle.lines.specs.Handing.{held_by};
@@ -19,7 +21,7 @@ use std::num::wrapping_add_u64;
 pub const ROOM: usize = 4184;
 
 // The line at hand, and the mender.
-#[derive(Drop)]
+#[derive(Clone, Copy)]
 pub struct Reader {
     gatherer: Gatherer,
     mender: Mender,
@@ -27,7 +29,7 @@ pub struct Reader {
 
 // What a call answers: the reader after it, how many bytes of the block it used, and what it printed. A call that is lent fewer than ROOM bytes does nothing,
 // and says so.
-#[derive(Drop)]
+#[derive(Clone, Copy)]
 pub struct Fed {
     pub reader: Reader,
     pub used: usize,
@@ -35,7 +37,7 @@ pub struct Fed {
 }
 
 // The reader after some bytes of a block, and the place after what was printed.
-#[derive(Drop)]
+#[derive(Clone, Copy)]
 pub struct Moved {
     reader: Reader,
     used: usize,
@@ -43,7 +45,7 @@ pub struct Moved {
 }
 
 // Recorded samples that the mender took one after the other: what it holds then, how many there were, and the places after them and after what they printed.
-#[derive(Drop)]
+#[derive(Clone, Copy)]
 pub struct Ran {
     mender: Mender,
     rows: u64,

@@ -12,7 +12,7 @@ use vocabulary::interval::Interval;
 const LONGEST: u64 = 60;
 
 // Its samples have the places 0, 1, 2, .. up to their number.
-#[derive(Drop)]
+#[derive(Clone, Copy)]
 pub struct Grid {
     pub interval: Interval,
     pub places: u32,

@@ -24,7 +24,7 @@ use vocabulary::refusal::Refusal;
 use vocabulary::sample::{Sample, in_range};
 
 // Before the header; while lines are taken; after the end or a refusal, when nothing is read any more.
-#[derive(Drop)]
+#[derive(Clone, Copy)]
 pub enum Stage {
     Empty,
     Open,
@@ -32,13 +32,13 @@ pub enum Stage {
 }
 
 // The second of the line just before, where there was one.
-#[derive(Drop)]
+#[derive(Clone, Copy)]
 pub enum Before {
     Nothing,
     Second(i32),
 }
 
-#[derive(Drop)]
+#[derive(Clone, Copy)]
 pub struct Mender {
     stage: Stage,
     grid: Grid,
@@ -48,7 +48,7 @@ pub struct Mender {
 }
 
 // What a second makes of a line: O, T, or good, with its place.
-#[derive(Drop)]
+#[derive(Clone, Copy)]
 pub enum Sorted {
     Stray,
     Repeated,
@@ -56,7 +56,7 @@ pub enum Sorted {
 }
 
 // What the mender answers to a line: what it holds then, and the place after what it printed.
-#[derive(Drop)]
+#[derive(Clone, Copy)]
 pub struct Told {
     pub mender: Mender,
     pub next: usize,

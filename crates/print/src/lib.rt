@@ -1,5 +1,7 @@
 // Text, written into a lent buffer from a place on. Each function answers the place after its text. What lies past the
 // buffer's end is not written, so no buffer is too short for a call, and the same call on one byte measures a text.
+#![tactic(auto)]
+
 ghost use Rattle.std.specs.Prelude.{◌*◌, ◌≤◌, ◌<◌, [], ◌∷◌, ◌++◌, map, length};
 ghost use Rattle.print.specs.Decimal.{two_digits, four_digits, digits, number_text, date_text, hyphen, tab, line_end};
 ghost use Rattle.print.specs.Print.{Wrote};

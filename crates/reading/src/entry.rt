@@ -12,7 +12,7 @@ use vocabulary::recorded::Recorded;
 use vocabulary::sample::Sample;
 
 // What a line of a recording says.
-#[derive(Drop)]
+#[derive(Clone, Copy)]
 pub enum Entry {
     Header(Header),
     Recorded(Recorded),
@@ -21,7 +21,7 @@ pub enum Entry {
 }
 
 // What kind of line of a recording a first field begins.
-#[derive(Drop)]
+#[derive(Clone, Copy)]
 pub enum EntryKind {
     Header,
     Recorded,

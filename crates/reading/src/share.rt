@@ -10,7 +10,7 @@ use fields::split::{Split, split_of};
 use vocabulary::direction::Direction;
 
 // The quarter hour from 0, the direction, and the share in kWh. Whose share it is is kept beside it: see `whose`.
-#[derive(Drop)]
+#[derive(Clone, Copy)]
 pub struct Share {
     pub quarter: i32,
     pub direction: Direction,
@@ -18,7 +18,7 @@ pub struct Share {
 }
 
 // What a line says: that of an input that is settled, or a share.
-#[derive(Drop)]
+#[derive(Clone, Copy)]
 pub enum Asked {
     Settling(Line),
     Share(Share),

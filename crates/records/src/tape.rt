@@ -8,7 +8,7 @@ use vocabulary::refusal::Refusal;
 use vocabulary::sample::{Sample, in_range};
 
 // Only the first `filled` places count.
-#[derive(Drop)]
+#[derive(Clone, Copy)]
 pub struct Tape {
     pub setpoints: [i32; 900],
     pub actuals: [i32; 900],
@@ -16,7 +16,7 @@ pub struct Tape {
 }
 
 // The tape with the samples before the first that is refused, and why that one is.
-#[derive(Drop)]
+#[derive(Clone, Copy)]
 pub struct Recorded {
     pub tape: Tape,
     pub refusal: Refusal,

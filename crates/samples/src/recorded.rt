@@ -9,14 +9,14 @@ use vocabulary::recorded::Recorded;
 use vocabulary::sample::Sample;
 
 // A recorded sample, and the place after its line's LF.
-#[derive(Drop)]
+#[derive(Clone, Copy)]
 pub struct RecordedLine {
     pub recorded: Recorded,
     pub to: usize,
 }
 
 // What the first of some lines is: a recorded sample in range, or anything else.
-#[derive(Drop)]
+#[derive(Clone, Copy)]
 pub enum FirstRecorded {
     Of(RecordedLine),
     Other,

@@ -68,7 +68,7 @@ fn descended(limits: &[u64], from: usize, power: Power) -> usize
 
 // How many powers at the start of a series stay between two limits, and the sum of what they have above the lower one. A power below the lower limit
 // wraps to more than the width, so one test serves for both limits. Two are looked at in a turn, so an odd one at the end may be left over.
-#[derive(Drop)]
+#[derive(Clone, Copy)]
 struct Run {
     count: usize,
     sum: u64,
@@ -104,7 +104,7 @@ fn stretch(powers: &[u64], low: Power, high: Power) -> Run
 }
 
 // The run at the start of a series, with the place that it stays at; the place before is where the search begins.
-#[derive(Drop)]
+#[derive(Clone, Copy)]
 struct Step {
     place: usize,
     count: usize,

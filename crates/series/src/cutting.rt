@@ -12,7 +12,7 @@ use std::num::wrapping_add_u64;
 pub(crate) const MOST: u64 = 18_446_744_073_709_551_615;
 
 // The sum of each slice, and of what lies above the last limit.
-#[derive(Drop)]
+#[derive(Clone, Copy)]
 pub struct Pieces {
     pub sums: [u64; 32],
     pub rest: u64,

@@ -13,7 +13,7 @@ use sheets::{BUFFER, Printed};
 const BLOCK: usize = 65536;
 
 // The reader after some input, whether all that it printed could be written out, and how many bytes are left, which were read and not fed.
-#[derive(Drop)]
+#[derive(Clone, Copy)]
 struct Passed {
     reader: Reader,
     wrote: bool,

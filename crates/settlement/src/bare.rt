@@ -19,7 +19,7 @@ use records::tape::Tape;
 use vocabulary::refusal::Refusal;
 
 // Of the samples at hand it knows how many count.
-#[derive(Drop)]
+#[derive(Clone, Copy)]
 pub struct Bare {
     pub(crate) plan: Plan,
     pub(crate) books: Books,
@@ -30,7 +30,7 @@ pub struct Bare {
 }
 
 // What taking answers, as for a run with its samples.
-#[derive(Drop)]
+#[derive(Clone, Copy)]
 pub struct BareTaken {
     pub bare: Bare,
     pub refusal: Refusal,

@@ -11,7 +11,7 @@ use vocabulary::refusal::Refusal;
 use vocabulary::sample::in_range;
 
 // Whether a block was begun, how many of its setpoints are still to come, and its bounds.
-#[derive(Drop)]
+#[derive(Clone, Copy)]
 pub struct Load {
     pub begun: bool,
     pub left: usize,

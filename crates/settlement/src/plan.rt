@@ -9,7 +9,7 @@ use arithmetic::whole::{above_zero, least};
 use vocabulary::header::{Header, Lot};
 use vocabulary::interval::Interval;
 
-#[derive(Drop)]
+#[derive(Clone, Copy)]
 pub struct Plan {
     pub date: Date,
     pub quarters: u8,

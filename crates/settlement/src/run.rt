@@ -29,7 +29,7 @@ use vocabulary::sample::Sample;
 
 // The past is the channel as it stands where the quarter hour at hand began, and the load tells how much of a block it still lacks; the tape has that
 // quarter hour's samples.
-#[derive(Drop)]
+#[derive(Clone, Copy)]
 pub struct Run {
     pub(crate) plan: Plan,
     pub(crate) books: Books,
@@ -40,21 +40,21 @@ pub struct Run {
 }
 
 // What opening answers. A refused opening gives no run: what stands in its place has no quarter hour and refuses every call.
-#[derive(Drop)]
+#[derive(Clone, Copy)]
 pub struct Opened {
     pub run: Run,
     pub refusal: Refusal,
 }
 
 // What a call answers; the run of a refused call is the one that came in.
-#[derive(Drop)]
+#[derive(Clone, Copy)]
 pub struct Answer {
     pub run: Run,
     pub refusal: Refusal,
 }
 
 // What taking answers: the quarter hour's number from 0, and its figures in both directions; nothing in them where it is refused.
-#[derive(Drop)]
+#[derive(Clone, Copy)]
 pub struct Taken {
     pub run: Run,
     pub refusal: Refusal,
@@ -63,7 +63,7 @@ pub struct Taken {
 }
 
 // What ending answers: the quarter hours taken, the sums of their fees and penalties, and the channel, whose block the next run may start from.
-#[derive(Drop)]
+#[derive(Clone, Copy)]
 pub struct Ended {
     pub run: Run,
     pub refusal: Refusal,
@@ -74,7 +74,7 @@ pub struct Ended {
 }
 
 // What a sheet's head says: the day, the interval and the lot that was used.
-#[derive(Drop)]
+#[derive(Clone, Copy)]
 pub struct Heading {
     pub date: Date,
     pub interval: Interval,

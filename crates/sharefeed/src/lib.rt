@@ -1,4 +1,6 @@
 // Blocks of an input for the checker of shares, in constant memory, however the input is cut. Nothing is printed before its end, so a call reads its whole block.
+#![tactic(auto)]
+
 ghost use Rattle.std.specs.Prelude.{◌≡◌, List, ℕ, ◌≤◌, length, take};
 ghost use Rattle.lines.specs.Handing.{held_by, handed};
 ghost use Rattle.judging.specs.Kept.{keeping};
@@ -10,7 +12,7 @@ use lines::{Gathered, Gatherer};
 use sheets::Printed;
 
 // The line at hand, and the checker.
-#[derive(Drop)]
+#[derive(Clone, Copy)]
 pub struct Reader {
     gatherer: Gatherer,
     checker: Checker,

@@ -9,7 +9,7 @@ use print::{put, put_field, put_line_end};
 use vocabulary::direction::Direction;
 
 // Accepted, with the number of quarter hours; or the first quarter hour and direction that does not hold.
-#[derive(Drop)]
+#[derive(Clone, Copy)]
 pub enum Verdict {
     Accepted(u8),
     Failing { quarter: u8, direction: Direction },

@@ -16,28 +16,28 @@ use vocabulary::header::{Header, Lot};
 use vocabulary::refusal::Refusal;
 
 // Before the header; while the run is open; after the end or a refusal, when nothing is read any more.
-#[derive(Drop)]
+#[derive(Clone, Copy)]
 pub enum Stage {
     Empty,
     Open,
     Closed,
 }
 
-#[derive(Drop)]
+#[derive(Clone, Copy)]
 pub struct Desk {
     pub run: Run,
     pub stage: Stage,
 }
 
 // What the desk answers to a line. Where the buffer is too short, the desk is the one that came in.
-#[derive(Drop)]
+#[derive(Clone, Copy)]
 pub struct Told {
     pub desk: Desk,
     pub printed: Printed,
 }
 
 // What it answers to samples, of which a reader has the powers.
-#[derive(Drop)]
+#[derive(Clone, Copy)]
 pub struct BareTold {
     pub bare: Bare,
     pub printed: Printed,

@@ -1,7 +1,7 @@
 // The bounds of the acceptance channel, in units.
 use arithmetic::power::Units;
 
-#[derive(Drop)]
+#[derive(Clone, Copy)]
 pub struct Bounds {
     pub oga: Units,
     pub uga: Units,

@@ -2,7 +2,7 @@
 use crate::direction::Direction;
 
 // Award in kW, price in cent per MWh. Its identifier is handed over beside it.
-#[derive(Drop)]
+#[derive(Clone, Copy)]
 pub struct Contract {
     pub direction: Direction,
     pub award: i32,

@@ -2,14 +2,14 @@
 use arithmetic::date::Date;
 
 // The minimum lot in kW, or left blank: what that means is decided where the run is opened.
-#[derive(Drop)]
+#[derive(Clone, Copy)]
 pub enum Lot {
     Blank,
     Kw(i32),
 }
 
 // The stretch: its day, the interval in seconds, the minimum lot and the number of quarter hours.
-#[derive(Drop)]
+#[derive(Clone, Copy)]
 pub struct Header {
     pub date: Date,
     pub interval: i32,

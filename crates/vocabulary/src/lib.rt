@@ -1,4 +1,6 @@
 // The words of a settlement, which every crate above uses: what an input says, with any numbers in it, and why it is refused.
+#![tactic(auto)]
+
 pub mod interval; // the seconds between two setpoints, and the windows that they fix
 pub mod direction; // positive and negative
 pub mod header; // the stretch that is settled

@@ -4,7 +4,7 @@ ghost use Rattle.vocabulary.specs.Sample.{power_in_range};
 
 use arithmetic::whole::within;
 
-#[derive(Drop)]
+#[derive(Clone, Copy)]
 pub struct Sample {
     pub setpoint: i32,
     pub actual: i32,

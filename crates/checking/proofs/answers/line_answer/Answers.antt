@@ -1,0 +1,27 @@
+-- `checking::answers::line_answer` meets its contract. Assumes nothing.
+use Rattle.std.proofs.Common.{to_z-of_z, w32, rules}
+use borrow.Author.Rules.{sfits_of}
+use Rattle.checking.proofs.answers.line_answer.Goals as goal
+
+pub returns-in-Header : goal.returns-in-Header
+returns-in-Header c = rw c.in-Header.is c.answered.ensures
+
+pub returns-in-Bounds : goal.returns-in-Bounds
+returns-in-Bounds c = rw c.in-Bounds.is c.bounds.ensures
+
+pub returns-in-Setpoint : goal.returns-in-Setpoint
+returns-in-Setpoint c =
+    let answer = rw (to_z-of_z {w = w32} (sfits_of c.known_told-in-Setpoint-1.given.0.1)) at c.setpoint.ensures in
+    rw c.in-Setpoint.is answer
+
+pub returns-in-Contract : goal.returns-in-Contract
+returns-in-Contract c = rw (c.in-Contract.is, ← c.identifier.ensures) c.contract.ensures
+
+pub returns-in-Sample : goal.returns-in-Sample
+returns-in-Sample c = rw c.in-Sample.is c.sample.ensures
+
+pub returns-in-End : goal.returns-in-End
+returns-in-End c = rw (c.in-End.is, ← c.end_refusal.ensures) c.answered-in-End.ensures
+
+pub returns-in-Malformed : goal.returns-in-Malformed
+returns-in-Malformed c = rw c.in-Malformed.is c.answered-in-Malformed.ensures

@@ -1,0 +1,12 @@
+-- `feed::told` meets its contract. Assumes nothing.
+use mathlib.Core.Path.{sym}
+use native.Mathlib.Omega.{arith}
+use lib.Seq.{take_all, length-take-le}
+use Rattle.std.proofs.Common.{rules}
+use Rattle.feed.proofs.told.Goals as goal
+
+pub slice_bounds-line-end : goal.slice_bounds-line-end
+slice_bounds-line-end c = sym (length-take-le _ _ (omega arith))
+
+pub returns : goal.returns
+returns c = rw (take_all _ _ c.if-kept-bytes.false) c.line-2.ensures

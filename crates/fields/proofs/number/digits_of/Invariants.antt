@@ -1,0 +1,14 @@
+use Rattle.fields.proofs.DigitLaws.{low-at, high-at, more-at, ended_at, bounded, one_more}
+use Rattle.fields.specs.Numbers.{value_from, digits_of}
+use Prim.Native.Nat.{◌-◌, ◌^◌, ◌≤◌, ◌<◌}
+use mathlib.Core.Path.{◌≡◌, refl, sym, ◌∙◌}
+use native.Mathlib.Omega.{arith}
+use native.Mathlib.Numerals.{add-one}
+use lib.ListN.{length, get_or, drop}
+use Rattle.fields.proofs.number.digits_of.Given as goal
+
+abbrev pub invariant-loop-i : goal.invariant-loop-i
+invariant-loop-i l = (l.i ≤ length l.bytes) × (l.value < 10 ^ l.i) × (digits_of l.bytes ≡ value_from l.value (drop l.i l.bytes))
+
+abbrev pub decreases-loop-i : goal.decreases-loop-i
+decreases-loop-i l = length l.bytes - l.i

@@ -1,0 +1,13 @@
+use Rattle.fields.proofs.SplitLaws.{Splitting, split-none, split-more, split-counted, split-all}
+use lib.ListN.{length}
+use Prim.Native.Nat.{suc, ◌-◌}
+use mathlib.Core.Logic.{⊎_elim}
+use native.Mathlib.Omega.{arith}
+use Rattle.std.proofs.Common.{rules}
+use Rattle.fields.proofs.split.split_of.Given as goal
+
+abbrev pub invariant-loop-from : goal.invariant-loop-from
+invariant-loop-from l = Splitting l.line l.from l.count l.places
+
+abbrev pub decreases-loop-from : goal.decreases-loop-from
+decreases-loop-from l = suc (length l.line) - l.from

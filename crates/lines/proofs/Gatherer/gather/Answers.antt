@@ -1,0 +1,53 @@
+-- `lines::Gatherer::gather` meets its contract. The loop's invariant: what is gathered from the whole block is what is gathered from byte i on,
+-- by a gatherer that has the loop's bytes and length. The measure is what is left of the block. Assumes nothing.
+use Rattle.std.proofs.Common.{◌≡◌, ℕ, ◌-◌, ◌≤◌, List, length as size, drop, sym, ap, ◌∙◌, ⊎_elim, arith, length-set, rules}
+use Rattle.lines.specs.declared.Gatherer.{Gatherer}
+use Rattle.lines.specs.Gathering.{completed, further, gathered_of}
+use Rattle.lines.proofs.Reading.{kept, overlong, at_once, line-ends, byte_more, block-ends}
+use Rattle.lines.proofs.Gatherer.gather.Goals as goal
+
+abbrev at-hand : List ℕ → ℕ → ℕ → Gatherer
+at-hand bytes length count = record { bytes = bytes; length = length; count = count }
+
+pub loop-i-init : goal.loop-i-init
+loop-i-init c = (omega arith, search rules, at_once _)
+
+pub bounds-block-i : goal.bounds-block-i
+bounds-block-i c = omega arith
+
+pub overflow_add-result : goal.overflow_add-result
+overflow_add-result c = omega arith
+
+pub returns-then-byte-eq-LF : goal.returns-then-byte-eq-LF
+unfolding completed
+returns-then-byte-eq-LF c = rw c.wrapping_add_u64-count.ensures
+    (sym
+    (c.loop-i.invariant.2
+    ∙ line-ends _ _ _ c.loop-i-test.true c.if-byte-eq-LF.true))
+
+pub bounds-bytes-length : goal.bounds-bytes-length
+bounds-bytes-length c = omega arith
+
+pub overflow_add-length : goal.overflow_add-length
+overflow_add-length c = omega arith
+
+pub overflow_add-i : goal.overflow_add-i
+overflow_add-i c = omega arith
+
+pub loop-i-smaller : goal.loop-i-smaller
+loop-i-smaller c = omega arith
+
+pub loop-i-preserved : goal.loop-i-preserved
+loop-i-preserved c =
+    let inv = c.loop-i.invariant in (
+      omega arith,
+      ⊎_elim (λ w. ap size w.1 ∙ simp length-set inv.1) (λ w. ap size w.1 ∙ inv.1) c.if-length-lt-KEPT.branch,
+      inv.2
+          ∙ byte_more _ _ _ c.loop-i-test.true c.if-byte-eq-LF.false _
+          (⊎_elim (λ w. rw (w.1, w.2) (kept _ _ w.0.taken)) (λ w. rw (w.1, w.2) (overlong _ _ w.0.left)) c.if-length-lt-KEPT.branch),
+    )
+
+pub returns : goal.returns
+returns c = sym
+    (c.loop-i.invariant.2
+    ∙ block-ends _ _ _ c.loop-i-test.false)

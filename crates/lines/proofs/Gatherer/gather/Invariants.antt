@@ -1,0 +1,14 @@
+use Rattle.std.proofs.Common.{◌≡◌, ℕ, ◌-◌, ◌≤◌, List, length as size, drop, sym, ap, ◌∙◌, ⊎_elim, arith, length-set, rules}
+use Rattle.lines.specs.declared.Gatherer.{Gatherer}
+use Rattle.lines.specs.Gathering.{completed, further, gathered_of}
+use Rattle.lines.proofs.Reading.{kept, overlong, at_once, line-ends, byte_more, block-ends}
+use Rattle.lines.proofs.Gatherer.gather.Given as goal
+
+abbrev pub invariant-loop-i : goal.invariant-loop-i
+invariant-loop-i l =
+    (l.i ≤ size l.block)
+    × (size l.bytes ≡ 81)
+    × (gathered_of (at-hand l.initial.bytes l.initial.length l.count) l.block ≡ further l.i (gathered_of (at-hand l.bytes l.length l.count) (drop l.i l.block)))
+
+abbrev pub decreases-loop-i : goal.decreases-loop-i
+decreases-loop-i l = size l.block - l.i

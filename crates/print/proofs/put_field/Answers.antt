@@ -1,0 +1,14 @@
+-- `print::put_field` meets its contract.
+-- Assumes nothing.
+use native.Mathlib.Omega.{arith}
+use Rattle.print.proofs.Digits.{digits-length}
+use Rattle.print.proofs.Writing.{join, wrote-length}
+use Rattle.std.proofs.Common.{rules}
+use Rattle.print.proofs.put_field.Goals as goal
+
+pub returns : goal.returns
+returns c =
+    let tab = c in record {
+      wrote = join tab.put_tab-field.ensures c.put_count.ensures;
+      short = digits-length 19 tab.args.n (omega arith);
+    }

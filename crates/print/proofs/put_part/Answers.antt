@@ -1,0 +1,8 @@
+-- `print::put_part` meets its contract.
+-- Assumes nothing.
+use Rattle.print.proofs.Writing.{join}
+use Rattle.std.proofs.Common.{rules}
+use Rattle.print.proofs.put_part.Goals as goal
+
+pub returns : goal.returns
+returns c = join c.put-next.ensures c.put_two.ensures

@@ -1,0 +1,10 @@
+use Rattle.std.proofs.Common.{◌+◌, ◌-◌, ◌<◌, ◌≤◌, length, refl, arith}
+use Rattle.series.specs.Counts.{Ran}
+use Rattle.series.proofs.Runs.{ran_first, ran-lifted}
+use Rattle.series.proofs.counting.stretch.Given as goal
+
+abbrev pub invariant-loop-i : goal.invariant-loop-i
+invariant-loop-i l = (0 < l.i) × Ran l.low l.high l.powers l.sum l.i
+
+abbrev pub decreases-loop-i : goal.decreases-loop-i
+decreases-loop-i l = length l.powers - l.i

@@ -1,0 +1,36 @@
+-- `text::desk::asked` meets its contract: each line asks what the definition says. Assumes nothing.
+use Rattle.text.specs.Serving.{asked_of}
+use Rattle.std.proofs.Common.{to_z-of_z, w32, rules}
+use borrow.Author.Rules.{sfits_of}
+use Rattle.text.proofs.desk.asked.Goals as goal
+
+pub returns-in-Header : goal.returns-in-Header
+unfolding asked_of
+returns-in-Header c = rw c.in-Header.is c.unasked.ensures
+
+pub returns-in-Bounds : goal.returns-in-Bounds
+unfolding asked_of
+returns-in-Bounds c = rw c.in-Bounds.is c.bounds.ensures
+
+pub returns-in-Setpoint : goal.returns-in-Setpoint
+unfolding asked_of
+returns-in-Setpoint c =
+    let known = c in
+    let answer = rw (to_z-of_z {w = w32} (sfits_of known.known_told-in-Setpoint-1.given.0.1)) at c.setpoint.ensures in
+    rw known.in-Setpoint.is answer
+
+pub returns-in-Contract : goal.returns-in-Contract
+unfolding asked_of
+returns-in-Contract c = rw (c.in-Contract.is, ← c.identifier.ensures) c.contract.ensures
+
+pub returns-in-Sample : goal.returns-in-Sample
+unfolding asked_of
+returns-in-Sample c = rw c.in-Sample.is c.sample.ensures
+
+pub returns-in-End : goal.returns-in-End
+unfolding asked_of
+returns-in-End c = rw c.in-End.is c.unasked-in-End.ensures
+
+pub returns-in-Malformed : goal.returns-in-Malformed
+unfolding asked_of
+returns-in-Malformed c = rw c.in-Malformed.is c.unasked-in-Malformed.ensures

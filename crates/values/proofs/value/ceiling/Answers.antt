@@ -1,0 +1,9 @@
+-- `values::value::ceiling` meets its contract.
+-- Assumes nothing.
+use Rattle.std.proofs.Common.{rules}
+use Rattle.values.specs.Part.{ceiling_of}
+use Rattle.values.proofs.value.ceiling.Goals as goal
+
+pub returns : goal.returns
+unfolding ceiling_of
+returns c = rw (c.most.ensures, c.scaled.ensures)
