@@ -1,6 +1,6 @@
 """Never a stale program: what runs is built, by a proof, from the sources and with the toolchain that are there.
 
-After a successful `rt check` a record beside the programs says what it was about: the kit, a digest of the sources, one
+After a successful `rt run`, or the gate's `rt ci`, a record in target/desk says what it was about: the kit, a digest of the sources, one
 of the program, and the size and the times of each of these files. A run compares the record with what is there: sizes
 and times, and the contents only where those differ."""
 import contextlib
@@ -14,15 +14,15 @@ from desk.places import ROOT, TARGET
 from desk.streams import say
 
 RECORDS = os.path.join(TARGET, "desk")
-# Edits that the prover has to refuse are no part of a program.
-NO_SOURCES = ("must-fail", "wrong-answers")
+# Edits that the prover has to refuse are no part of a program, nor is what the toolchain makes.
+NO_SOURCES = ("must-fail", "wrong-answers", "out")
 # A file that changed so shortly before it was recorded may change again without its time telling, in nanoseconds.
 TOO_FRESH = 2 * 10**9
 
 
 def program_file(name):
     """where a program is when it is built"""
-    return os.path.join(TARGET, "bin", name)
+    return os.path.join(ROOT, "crates", name, "out", name)
 
 
 def ensure_built(name):
@@ -104,10 +104,9 @@ def _prove_and_record(name):
     from desk.proving import prove
     # without times, so that the contents are compared once more: a source may change while it is proved
     record = {"kit": kit(), "sources": _digest(_sources()), "times": ""}
-    _give_up_foreign(name, record["sources"])
     prove(name)
     if not os.access(program_file(name), os.X_OK):
-        raise Trouble(f"rt check {name} ended well and made no {program_file(name)}", NOT_BUILT)
+        raise Trouble(f"rt run in crates/{name} ended well and made no {program_file(name)}", NOT_BUILT)
     record["program"] = _digest([program_file(name)])
     try:
         _write_record(name, record)
@@ -115,13 +114,18 @@ def _prove_and_record(name):
         raise Trouble(f"{name} is built, and {RECORDS} can't be written to: {error.strerror}", NOT_BUILT) from None
 
 
-def _give_up_foreign(name, sources):
-    """Has a program made anew that is gone or that something else wrote: rt looks at the sources alone."""
-    known = _read_record(name)
-    here = os.access(program_file(name), os.X_OK)
-    if not here or (known and known["sources"] == sources and known["program"] != _digest([program_file(name)])):
-        with contextlib.suppress(FileNotFoundError):
-            os.unlink(os.path.join(TARGET, "stamp", name))
+def sources_digest():
+    """a digest of all that a proof may read"""
+    return _digest(_sources())
+
+
+def note_built(name, sources):
+    """records that the program that is there was proved and built just now, from sources of this digest"""
+    if not os.access(program_file(name), os.X_OK):
+        raise Trouble(f"there is no {program_file(name)}", NOT_BUILT)
+    os.makedirs(RECORDS, exist_ok=True)
+    record = {"kit": kit(), "sources": sources, "times": "", "program": _digest([program_file(name)])}
+    _write_record(name, record)
 
 
 def _sources():

@@ -1,4 +1,4 @@
-"""The toolchain's `rt check`, with its progress on standard error and its failures in words."""
+"""The toolchain's `rt run` in a program's crate, with its progress on standard error and its failures in words."""
 import contextlib
 import os
 import shutil
@@ -8,7 +8,7 @@ import tempfile
 
 from desk import signals
 from desk.endings import NOT_BUILT, Trouble
-from desk.places import ROOT
+from desk.places import ROOT, TARGET
 from desk.streams import STANDARD_ERROR, say, write_all
 
 # How rt ends where something is not proved, or where the prover can't tell; otherwise it failed itself.
@@ -19,26 +19,47 @@ GRACE = 5
 
 def prove(name):
     """proves a program and all that it is built on, builds it and runs it on its own example"""
-    said = []
-    with _started(["rt", "check", name]) as process:
-        for line in process.stdout:
+    said, printed = [], os.path.join(TARGET, "desk", f"{name}.printed")
+    with open(_log(name), "wb") as log, _started(["rt", "run"], name, printed) as process:
+        for line in process.stderr:
+            log.write(line)
             if line.startswith(b"rt: "):
                 _show(line)
                 said.append(line.decode("utf-8", "replace").strip())
         status = process.wait()
-    if status != 0:
-        raise Trouble(_why_not(name, status, said), NOT_BUILT)
+    runs = any(line.startswith("rt: running ") for line in said)
+    if not runs or status != 0 or _bytes(printed) != _bytes(_own_file(name, "stdout")):
+        raise Trouble(_why_not(name, status, said, runs), NOT_BUILT)
 
 
-def _why_not(name, status, said):
-    """why a check ended without success, by its status and the lines that rt said"""
-    failed = "".join(line.split("FAILED:")[1] for line in said if line.startswith("rt: FAILED:")).split()
-    logs = ", ".join(f"target/log/{crate}.out" for crate in failed)
-    if status not in NOT_PROVED:
-        return f"the toolchain failed, so nothing is built: rt check {name} ended with status {status}"
-    if any("its run FAILED" in line for line in said):
+def _log(name):
+    """what the prover said last, in full"""
+    return os.path.join(TARGET, "desk", f"{name}.log")
+
+
+def _own_file(name, which):
+    """a file that the program's crate may have: the example that it is run on, or what it has to print for it"""
+    return os.path.join(ROOT, "crates", name, which)
+
+
+def _bytes(path):
+    """what a file has, nothing where there is none"""
+    try:
+        with open(path, "rb") as file:
+            return file.read()
+    except FileNotFoundError:
+        return b""
+
+
+def _why_not(name, status, said, runs):
+    """why a run of rt ended without success, by its status and the lines that it said"""
+    if runs:
         return f"the program {name} is proved, and does not print what its example in crates/{name} asks for"
-    return f"the proof fails, so nothing is built: {' '.join(failed)}; {logs} has what the prover said"
+    if status not in NOT_PROVED:
+        return f"the toolchain failed, so nothing is built: rt run in crates/{name} ended with status {status}"
+    words = [line.split() for line in said if line.startswith("rt: the library ") and "did not build" in line]
+    failed = words[-1][3] if words else name
+    return f"the proof fails, so nothing is built: {failed}; target/desk/{name}.log has what the prover said"
 
 
 def _show(line):
@@ -49,21 +70,22 @@ def _show(line):
 
 
 @contextlib.contextmanager
-def _started(command):
-    """A command with a folder for its temporary files. When the block is left, both are gone, with all it started."""
+def _started(command, name, printed):
+    """A command in a crate, on its example, with a folder for its temporary files. When the block is left, both are gone, with all it started."""
     scratch = process = None
     try:
-        with signals.held():
+        with contextlib.ExitStack() as files, signals.held():
             scratch = tempfile.mkdtemp(prefix="fireboxer-")
-            # the toolchain runs programs as another user, who has to get through
-            os.chmod(scratch, 0o711)
-            process = subprocess.Popen(command, cwd=ROOT, env=dict(os.environ, TMPDIR=scratch), start_new_session=True,
-                                       stdin=subprocess.DEVNULL, stdout=subprocess.PIPE, stderr=subprocess.STDOUT)
+            example = _own_file(name, "stdin")
+            source = files.enter_context(open(example if os.path.isfile(example) else os.devnull, "rb"))
+            out = files.enter_context(open(printed, "wb"))
+            process = subprocess.Popen(command, cwd=os.path.join(ROOT, "crates", name), env=dict(os.environ, TMPDIR=scratch),
+                                       start_new_session=True, stdin=source, stdout=out, stderr=subprocess.PIPE)
         yield process
     finally:
         if process:
             _end_group(process)
-            process.stdout.close()
+            process.stderr.close()
         if scratch:
             shutil.rmtree(scratch, ignore_errors=True)
 

@@ -69,8 +69,9 @@ class FrontEnd(unittest.TestCase):
         if "input" not in options:
             options.setdefault("stdin", subprocess.DEVNULL)
         options.setdefault("cwd", self.folder)
+        options.setdefault("timeout", 60)
         pipe = subprocess.PIPE
-        answer = subprocess.run([command, *words], stdout=pipe, stderr=pipe, timeout=60, **options)
+        answer = subprocess.run([command, *words], stdout=pipe, stderr=pipe, **options)
         answer.stderr = answer.stderr.decode()
         return answer
 

@@ -1,30 +1,38 @@
 """Never a stale program, and a reason for each failure: in a small repository of its own, by the real toolchain."""
+import contextlib
 import os
+import pathlib
 import shutil
 import signal
 import sys
 import tempfile
 import unittest
 
-from common import ROOT, FrontEnd, processes
+from common import ROOT, FrontEnd
 
 # A machine without the toolchain: all folders of the search path but those that have it.
 NO_TOOLCHAIN = {"PATH": os.pathsep.join(folder for folder in os.environ["PATH"].split(os.pathsep)
                                         if not os.path.exists(os.path.join(folder, "rt")))}
 
-CODE = """use libc::STDOUT_FILENO;
+# how long a small program may take to be proved on a busy machine, in seconds
+PROVED_WITHIN = 600
 
-fn main() {
-    io::write_all(STDOUT_FILENO, b"T\\t%d\\t0\\t0\\n");
+CODE = """#![tactic(auto)]
+
+fn main(rt: HostRuntime) {
+    let _wrote = print!(rt; "T\\t%d\\t0\\t0\\n");
 }
 """
 # a sum that may wrap: no proof of it is found
-UNPROVED = """fn sum(a: u8, b: u8) -> u8 {
+UNPROVED = """#![tactic(auto)]
+
+fn sum(a: u8, b: u8) -> u8 {
     a + b
 }
 
-fn main() {
-    sum(200, 100);
+fn main(rt: HostRuntime) {
+    let _sum = sum(200, 100);
+    let _wrote = print!(rt; "T\\t5\\t0\\t0\\n");
 }
 """
 
@@ -43,7 +51,7 @@ class Repository(FrontEnd):
         (folder / "tools").mkdir()
         shutil.copy(ROOT / "tools" / "program", folder / "tools")
         (folder / "crates" / "settle" / "src").mkdir(parents=True)
-        (folder / "crates.txt").write_text("settle: io libc\n")
+        (folder / "crates.txt").write_text("settle:\n")
         self.write(0)
 
     def write(self, quarters):
@@ -52,7 +60,7 @@ class Repository(FrontEnd):
         (self.folder / "crates" / "settle" / "stdout").write_text(f"T\t{quarters}\t0\t0\n")
 
     def settle(self, **options):
-        return self.call("settle", "/dev/null", command=self.command, **options)
+        return self.call("settle", "/dev/null", command=self.command, timeout=PROVED_WITHIN, **options)
 
     def version(self):
         return self.call("--version", command=self.command).stdout.decode()
@@ -81,11 +89,11 @@ class Stale(Repository):
     def first_runs(self):
         """of two runs at once, one builds and the other waits"""
         both = [self.start("settle", "/dev/null", command=self.command) for _ in range(2)]
-        answers = [process.communicate(timeout=60) for process in both]
+        answers = [process.communicate(timeout=PROVED_WITHIN) for process in both]
         self.assertEqual([out for out, _ in answers], [b"T\t0\t0\t0\n"] * 2, answers)
         said = b"".join(said for _, said in answers)
         self.assertEqual(said.count(b"the program settle is not built yet: proving and building it"), 1)
-        self.assertEqual(said.count(b"rt: settle proved"), 1)
+        self.assertEqual(said.count(b"rt: running out/settle"), 1)
         self.assertEqual(said.count(b"another run is building; waiting for it"), 1)
 
     def quiet_runs(self):
@@ -96,8 +104,8 @@ class Stale(Repository):
         answer = self.call(self.command, "settle", "/dev/null", command=sys.executable, env=NO_TOOLCHAIN)
         if os.uname().machine == "x86_64":
             self.assertEqual((answer.returncode, answer.stderr), (0, ""))
-        else:  # the emulator that runs the program comes with the toolchain
-            self.fails("the Rattle toolchain (command rt) is missing", answer)
+        else:
+            self.fails("programs are made for x86-64", answer)
         (self.folder / "crates" / "settle" / "must-fail").mkdir()
         (self.folder / "crates" / "settle" / "must-fail" / "some.edit").write_text("an edit is no source")
         self.assertEqual(self.settle().stderr, "")
@@ -115,7 +123,7 @@ class Stale(Repository):
         self.assertIn("the sources changed since the program settle was built: proving and building it", answer.stderr)
 
     def foreign_program(self):
-        shutil.copy("/bin/true", self.folder / "target" / "bin" / "settle")
+        shutil.copy("/bin/true", self.folder / "crates" / "settle" / "out" / "settle")
         answer = self.settle()
         self.prints(5, answer)
         self.assertIn("the program settle is not the one that was built: proving and building it", answer.stderr)
@@ -127,8 +135,8 @@ class Stale(Repository):
     def failing_proof(self):
         (self.folder / "crates" / "settle" / "src" / "main.rt").write_text(UNPROVED)
         answer = self.settle()
-        self.fails("the proof fails, so nothing is built: settle; target/log/settle.out has what the", answer)
-        self.assertTrue((self.folder / "target" / "log" / "settle.out").read_text())
+        self.fails("the proof fails, so nothing is built: settle; target/desk/settle.log has what the", answer)
+        self.assertTrue((self.folder / "target" / "desk" / "settle.log").read_text())
 
 
 class NotBuilt(Repository):
@@ -144,8 +152,8 @@ class NotBuilt(Repository):
         self.fails(f"{self.folder}/target can't be written to: ", self.settle())
 
     def test_toolchain_fails(self):
-        (self.folder / "crates.txt").write_text("settle io libc\n")
-        self.fails("the toolchain failed, so nothing is built: rt check settle ended with status 2", self.settle())
+        (self.folder / "crates.txt").write_text("settle io\n")
+        self.fails("the toolchain failed, so nothing is built: rt run in crates/settle ended with status 2", self.settle())
 
     def test_inputs_are_looked_at_first(self):
         self.assertEqual(self.call("settle", "none", command=self.command).returncode, 2)
@@ -168,8 +176,13 @@ class Stopped(Repository):
         self.assertEqual((self.provers(), os.listdir(room.name)), ([], []))
 
     def provers(self):
-        """the processes that prove this repository's crate"""
-        return processes(lambda group, command: os.fsencode(self.folder / "crates") in command)
+        """the ids of the processes that work in this repository's crate"""
+        crate, found = os.path.realpath(self.folder / "crates" / "settle"), []
+        for folder in pathlib.Path("/proc").glob("[0-9]*"):
+            with contextlib.suppress(OSError):
+                if os.readlink(folder / "cwd") == crate:
+                    found.append(int(folder.name))
+        return found
 
 
 class Version(FrontEnd):

@@ -218,7 +218,7 @@ class Signals(FrontEnd):
         return process
 
     def program_of(self, process):
-        return processes(lambda group, command: group == process.pid and b"bin/settle" in command)
+        return processes(lambda group, command: group == process.pid and b"out/settle" in command)
 
     def test_signals(self):
         for number, whole_group in ((signal.SIGINT, True), (signal.SIGTERM, False), (signal.SIGHUP, False)):

@@ -372,7 +372,7 @@ class Midway(Year):
         process = self.started(300)
 
         def programs():
-            return processes(lambda group, command: group == process.pid and b"bin/settle" in command)
+            return processes(lambda group, command: group == process.pid and b"out/settle" in command)
         self.wait_for(programs)
         os.kill(process.pid, signal.SIGSTOP)
         killed = programs()

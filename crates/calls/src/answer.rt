@@ -1,40 +1,47 @@
 // What a call answered, on standard output. A write that fails is not told: what is missing then differs from what another program writes.
 ghost use Rattle.std.specs.Prelude.{◌≡◌, length};
 
-use libc::STDOUT_FILENO;
 use sheets::Printed;
 use vocabulary::refusal::Refusal;
 
+fn put(rt: &impl Print, bytes: &[u8]) {
+    let _ = rt.write_all(bytes);
+}
+
+fn put_number(rt: &impl Print, n: u64) {
+    let _ = print!(rt; "{n}");
+}
+
 // A further number of the answer's line.
-fn also(n: u64) {
-    io::write_all(STDOUT_FILENO, b"\t");
-    io::print_decimal(STDOUT_FILENO, n);
+fn also(rt: &impl Print, n: u64) {
+    put(rt, b"\t");
+    put_number(rt, n);
 }
 
 // The line of an answer as far as every call has it: the line of the script, and the refusal's number.
-fn begun(line: u64, refusal: Refusal) {
-    io::print_decimal(STDOUT_FILENO, line);
-    also(refusal.number() as u64);
+fn begun(rt: &impl Print, line: u64, refusal: Refusal) {
+    put_number(rt, line);
+    also(rt, refusal.number() as u64);
 }
 
-pub(crate) fn answered(line: u64, refusal: Refusal) {
-    begun(line, refusal);
-    io::write_all(STDOUT_FILENO, b"\n");
+pub(crate) fn answered(rt: &impl Print, line: u64, refusal: Refusal) {
+    begun(rt, line, refusal);
+    put(rt, b"\n");
 }
 
 // With how many past setpoints or samples were accepted, or how many bytes were printed.
-pub(crate) fn counted(line: u64, refusal: Refusal, count: u64) {
-    begun(line, refusal);
-    also(count);
-    io::write_all(STDOUT_FILENO, b"\n");
+pub(crate) fn counted(rt: &impl Print, line: u64, refusal: Refusal, count: u64) {
+    begun(rt, line, refusal);
+    also(rt, count);
+    put(rt, b"\n");
 }
 
 // With how many contracts there are in each direction.
-pub(crate) fn counted_both(line: u64, above: u64, below: u64) {
-    begun(line, Refusal::None);
-    also(above);
-    also(below);
-    io::write_all(STDOUT_FILENO, b"\n");
+pub(crate) fn counted_both(rt: &impl Print, line: u64, above: u64, below: u64) {
+    begun(rt, line, Refusal::None);
+    also(rt, above);
+    also(rt, below);
+    put(rt, b"\n");
 }
 
 // The longest buffer that is lent, filled so that a byte which a call leaves is told from one which it writes.
@@ -52,24 +59,24 @@ pub(crate) fn length_of(printed: Printed) -> u64 {
 }
 
 // The text that was printed at the start of a buffer, which comes by value: lending it would be some steps more in each caller.
-pub(crate) fn showed(printed: Printed, out: [u8; 16384]) {
+pub(crate) fn showed(rt: &impl Print, printed: Printed, out: [u8; 16384]) {
     let n = length_of(printed) as usize;
     if n <= out.len() {
-        io::write_all(STDOUT_FILENO, &out[..n]);
+        put(rt, &out[..n]);
     }
 }
 
 // The buffer that a printing call was lent, whole.
-pub(crate) fn buffer(lent: &[u8]) {
-    io::write_all(STDOUT_FILENO, lent);
-    io::write_all(STDOUT_FILENO, b"\n");
+pub(crate) fn buffer(rt: &impl Print, lent: &[u8]) {
+    put(rt, lent);
+    put(rt, b"\n");
 }
 
 // A printing call's answer and its buffer.
-pub(crate) fn showed_whole(line: u64, printed: Printed, lent: &[u8]) {
+pub(crate) fn showed_whole(rt: &impl Print, line: u64, printed: Printed, lent: &[u8]) {
     match printed {
-        Printed::Length(n) => counted(line, Refusal::None, n as u64),
-        Printed::TooShort => answered(line, Refusal::BufferTooShort),
+        Printed::Length(n) => counted(rt, line, Refusal::None, n as u64),
+        Printed::TooShort => answered(rt, line, Refusal::BufferTooShort),
     }
-    buffer(lent);
+    buffer(rt, lent);
 }

@@ -17,18 +17,20 @@
 // refused as the end is, whatever is lent, and its text has no byte. An answer is a line with the number of the script's line, that of the refusal (0
 // where there is none) and a count: the past setpoints or samples accepted, the contracts in each direction, the length of what was printed. After it
 // stand, whether refused or not, the sheets, the total, the head, and the whole buffer that was lent.
+#![tactic(auto)]
+
 mod answer; // what is written
 mod script; // what the fields of a line say
 
-ghost use Rattle.std.specs.Prelude.{◌≤◌, length};
+ghost use Rattle.std.specs.Prelude.{◌≡◌, ◌≤◌, length};
 
 use arithmetic::money::Cents;
 use arithmetic::power::Units;
 use channel::Channel;
-use libc::STDIN_FILENO;
 use quarter::sheet::{Sheets, no_sheets};
 use settlement::run::{Answer, Run, Taken};
 use sheets::{Printed, print_block, print_head, print_quarter, print_refusal, print_total};
+use std::io::Read;
 use vocabulary::acceptance::Bounds;
 use vocabulary::contract::Contract;
 use vocabulary::direction::Direction;
@@ -45,10 +47,10 @@ fn header_of(line: &[u8]) -> Header {
     }
 }
 
-fn open(at: u64, line: &[u8]) -> Run {
+fn open(rt: &impl Print, at: u64, line: &[u8]) -> Run {
     let opened = Run::open(header_of(line));
     let refusal = opened.refusal;
-    answer::answered(at, refusal);
+    answer::answered(rt, at, refusal);
     opened.run
 }
 
@@ -84,15 +86,15 @@ fn given(run: Run, line: &[u8]) -> Answer {
     }
 }
 
-fn once(run: Run, at: u64, line: &[u8]) -> Run {
+fn once(rt: &impl Print, run: Run, at: u64, line: &[u8]) -> Run {
     let answer = given(run, line);
     let refusal = answer.refusal;
-    answer::answered(at, refusal);
+    answer::answered(rt, at, refusal);
     answer.run
 }
 
 // The same so often: what the last answered is told, and how many were accepted.
-fn repeated(run: Run, at: u64, line: &[u8]) -> Run {
+fn repeated(rt: &impl Print, run: Run, at: u64, line: &[u8]) -> Run {
     let times = script::count(line, 1, 65_535);
     let mut last = Answer {
         run: run,
@@ -107,21 +109,21 @@ fn repeated(run: Run, at: u64, line: &[u8]) -> Run {
         done += 1;
     }
     let refusal = last.refusal;
-    answer::counted(at, refusal, accepted);
+    answer::counted(rt, at, refusal, accepted);
     last.run
 }
 
-fn show_total(at: u64, refusal: Refusal, quarters: u8, fees: Cents, penalties: Cents) {
-    answer::answered(at, refusal);
+fn show_total(rt: &impl Print, at: u64, refusal: Refusal, quarters: u8, fees: Cents, penalties: Cents) {
+    answer::answered(rt, at, refusal);
     let mut out = answer::dotted();
     let printed = print_total(&mut out, quarters, fees, penalties);
-    answer::showed(printed, out);
+    answer::showed(rt, printed, out);
 }
 
-fn end(run: Run, at: u64) -> Run {
+fn end(rt: &impl Print, run: Run, at: u64) -> Run {
     let ended = run.end();
     let refusal = ended.refusal;
-    show_total(at, refusal, ended.quarters, ended.fees, ended.penalties);
+    show_total(rt, at, refusal, ended.quarters, ended.fees, ended.penalties);
     ended.run
 }
 
@@ -130,22 +132,22 @@ fn contracts_in(run: Run, direction: Direction) -> u64 {
 }
 
 // The head is printed before the contracts are counted, and shown after them: so the run is used late, which is checked sooner.
-fn heading(run: Run, at: u64) {
+fn heading(rt: &impl Print, run: Run, at: u64) {
     let heading = run.heading();
     let interval = heading.interval;
     let mut out = answer::dotted();
     let printed = print_head(&mut out, heading.date, interval, heading.lot);
     let above = contracts_in(run, Direction::Positive);
-    answer::counted_both(at, above, contracts_in(run, Direction::Negative));
-    answer::showed(printed, out);
+    answer::counted_both(rt, at, above, contracts_in(run, Direction::Negative));
+    answer::showed(rt, printed, out);
 }
 
 // What the taking of a quarter hour answered.
-fn show_taken(at: u64, refusal: Refusal, quarter: u8, sheets: Sheets) {
-    answer::answered(at, refusal);
+fn show_taken(rt: &impl Print, at: u64, refusal: Refusal, quarter: u8, sheets: Sheets) {
+    answer::answered(rt, at, refusal);
     let mut out = answer::dotted();
     let printed = print_quarter(&mut out, quarter, sheets);
-    answer::showed(printed, out);
+    answer::showed(rt, printed, out);
 }
 
 // The printing calls whose numbers all stand in the line.
@@ -172,19 +174,19 @@ fn printed_numbers(line: &[u8], out: &mut [u8]) -> Printed {
 }
 
 // A printing call, and the whole buffer that it was lent. The length of the text may decide how much that is, and is asked where there is room.
-fn print_numbers(at: u64, line: &[u8]) {
+fn print_numbers(rt: &impl Print, at: u64, line: &[u8]) {
     let mut whole = answer::dotted();
     let text = printed_numbers(line, &mut whole);
     let n = script::lent(line, answer::length_of(text));
     let mut buf = answer::dotted();
     let lent = &mut buf[..n];
     let told = printed_numbers(line, lent);
-    answer::showed_whole(at, told, lent);
+    answer::showed_whole(rt, at, told, lent);
 }
 
 // The same of the sheets of the last taking. Each kind of text has a function that holds what it prints and no more: one for all, with the run, took the
 // prover longer than these three.
-fn print_sheets(sheets: Sheets, at: u64, line: &[u8]) {
+fn print_sheets(rt: &impl Print, sheets: Sheets, at: u64, line: &[u8]) {
     let quarter = script::byte(line, 3);
     let mut whole = answer::dotted();
     let text = print_quarter(&mut whole, quarter, sheets);
@@ -192,21 +194,21 @@ fn print_sheets(sheets: Sheets, at: u64, line: &[u8]) {
     let mut buf = answer::dotted();
     let lent = &mut buf[..n];
     let told = print_quarter(lent, quarter, sheets);
-    answer::showed_whole(at, told, lent);
+    answer::showed_whole(rt, at, told, lent);
 }
 
 // A printing call that is refused for another reason than its buffer, which stays as it is.
-fn not_printed(at: u64, refusal: Refusal, line: &[u8]) {
-    answer::answered(at, refusal);
+fn not_printed(rt: &impl Print, at: u64, refusal: Refusal, line: &[u8]) {
+    answer::answered(rt, at, refusal);
     let n = script::lent(line, 0);
     let buf = answer::dotted();
-    answer::buffer(&buf[..n]);
+    answer::buffer(rt, &buf[..n]);
 }
 
 // The block that a run hands on, once it can be ended; before that no byte is printed.
-fn print_past(past: Channel, refusal: Refusal, at: u64, line: &[u8]) {
+fn print_past(rt: &impl Print, past: Channel, refusal: Refusal, at: u64, line: &[u8]) {
     if refusal.number() != 0 {
-        return not_printed(at, refusal, line);
+        return not_printed(rt, at, refusal, line);
     }
     let mut whole = answer::dotted();
     let text = print_block(&mut whole, past);
@@ -214,35 +216,35 @@ fn print_past(past: Channel, refusal: Refusal, at: u64, line: &[u8]) {
     let mut buf = answer::dotted();
     let lent = &mut buf[..n];
     let told = print_block(lent, past);
-    answer::showed_whole(at, told, lent);
+    answer::showed_whole(rt, at, told, lent);
 }
 
-fn block(run: Run, at: u64, line: &[u8]) {
+fn block(rt: &impl Print, run: Run, at: u64, line: &[u8]) {
     let ended = run.end();
     let refusal = ended.refusal;
-    print_past(ended.past, refusal, at, line);
+    print_past(rt, ended.past, refusal, at, line);
 }
 
 // The call of a line, which is the `at`-th of the script. What is held from call to call is what the last taking answered, with the run at hand in it;
 // after an opening nothing was taken.
-fn called(mut held: Taken, at: u64, line: &[u8]) -> Taken {
+fn called(rt: &impl Print, mut held: Taken, at: u64, line: &[u8]) -> Taken {
     match script::letter(line, 0) {
         b'O' => {
-            held.run = open(at, line);
+            held.run = open(rt, at, line);
             held.sheets = no_sheets();
         }
-        b'A' | b'C' => held.run = once(held.run, at, line),
-        b'B' | b'S' => held.run = repeated(held.run, at, line),
+        b'A' | b'C' => held.run = once(rt, held.run, at, line),
+        b'B' | b'S' => held.run = repeated(rt, held.run, at, line),
         b'K' => {
             held = held.run.take();
             let refusal = held.refusal;
-            show_taken(at, refusal, held.quarter, held.sheets);
+            show_taken(rt, at, refusal, held.quarter, held.sheets);
         }
-        b'E' => held.run = end(held.run, at),
-        b'H' => heading(held.run, at),
-        b'P' => block(held.run, at, line),
-        b'Q' => print_sheets(held.sheets, at, line),
-        _ => print_numbers(at, line),
+        b'E' => held.run = end(rt, held.run, at),
+        b'H' => heading(rt, held.run, at),
+        b'P' => block(rt, held.run, at, line),
+        b'Q' => print_sheets(rt, held.sheets, at, line),
+        _ => print_numbers(rt, at, line),
     }
     held
 }
@@ -274,21 +276,53 @@ fn at_first() -> Taken {
     opened.run.take()
 }
 
-fn play(script: &[u8]) {
+fn play(rt: &impl Print, script: &[u8]) {
     let mut held = at_first();
     let mut at: u64 = 0;
     let mut from = 0;
     while from < script.len() {
         let to = line_end(script, from);
         at = std::num::wrapping_add_u64(at, 1);
-        held = called(held, at, &script[from..to]);
+        held = called(rt, held, at, &script[from..to]);
         from = to + 1;
     }
 }
 
+// Reads once; answers how many bytes came, none where the input has ended. A read that fails ends it too.
+fn read_once(input: &mut impl Read, block: &mut [u8]) -> usize
+    ensures { result ≤ length block.new }
+{
+    match input.read(block) {
+        Ok(n) => n,
+        Err(_) => 0,
+    }
+}
+
+// Reads until the block is full or the input has ended; answers how many bytes came.
+fn read_full(input: &mut impl Read, block: &mut [u8]) -> usize
+    ensures { result ≤ length block.new }
+{
+    let mut done = 0;
+    while done < block.len() {
+        let n = read_once(input, &mut block[done..]);
+        if n == 0 {
+            return done;
+        }
+        done += n;
+    }
+    done
+}
+
 // A script has 65,536 bytes at most.
-fn main() {
-    let mut script = io::large_buffer();
-    let n = io::read_full(STDIN_FILENO, &mut script);
-    play(&script[..n]);
+fn no_script() -> [u8; 65536]
+    ensures { 65536 ≡ length result }
+{
+    [0u8; 65536]
+}
+
+fn main(rt: HostRuntime) {
+    let mut input = rt.stdin();
+    let mut script = no_script();
+    let n = read_full(&mut input, &mut script);
+    play(&rt, &script[..n]);
 }

@@ -1,12 +1,19 @@
 // The checking program: standard input to standard output. Here blocks are read and fed to the reader, and the one line that it prints is written out.
-use libc::{STDERR_FILENO, STDIN_FILENO, STDOUT_FILENO};
+#![tactic(auto)]
+
+ghost use Rattle.std.specs.Prelude.{◌≡◌, ◌≤◌, length};
+
 use sharefeed::Reader;
 use sheets::Printed;
+use std::io::Read;
 
 // The directions of 100 quarter hours, each with 32 contracts at most.
 const ROWS: usize = 200;
 
 const SHARES: usize = 6_400;
+
+// So much is read at once.
+const BLOCK: usize = 65536;
 
 // The reader after some input, and whether that was all of it.
 #[derive(Clone, Copy)]
@@ -16,20 +23,38 @@ struct Passed {
 }
 
 // Writes out what was printed; where that fails, it says so.
-fn write(printed: Printed, out: &[u8]) {
+fn write(rt: &(impl Print + Eprint), printed: Printed, out: &[u8]) {
     let Printed::Length(n) = printed else {
         return;
     };
     if n <= out.len() {
-        if io::write_all(STDOUT_FILENO, &out[..n]) {
+        if rt.write_all(&out[..n]).is_ok() {
             return;
         }
     }
-    io::write_all(STDERR_FILENO, b"checker: the output could not be written\n");
+    let _ = eprint!(rt; "checker: the output could not be written\n");
+}
+
+// The block that is read into.
+fn no_block() -> [u8; BLOCK]
+    ensures { 65536 ≡ length result }
+{
+    [0u8; BLOCK]
+}
+
+// Reads once; answers how many bytes came, none where the input has ended. A read that fails ends it too.
+fn read_once(input: &mut impl Read, block: &mut [u8]) -> usize
+    ensures { result ≤ length block.new }
+{
+    match input.read(block) {
+        Ok(n) => n,
+        Err(_) => 0,
+    }
 }
 
 // Reads once, and feeds what came. After a refusal nothing is read any more.
 fn turn(
+    input: &mut impl Read,
     reader: Reader,
     gaps: &mut [[u32; 32]],
     surpluses: &mut [u32],
@@ -41,8 +66,8 @@ fn turn(
             ended: true,
         };
     }
-    let mut block = io::large_buffer();
-    let n = io::count(libc::read(STDIN_FILENO, &mut block), &block);
+    let mut block = no_block();
+    let n = read_once(input, &mut block);
     if n == 0 {
         return Passed {
             reader: reader,
@@ -57,14 +82,21 @@ fn turn(
 }
 
 // The input ended, or a line was refused: what there is to say.
-fn end(reader: Reader, gaps: &[[u32; 32]], surpluses: &[u32], shares: &[i32]) {
+fn end(
+    rt: &(impl Print + Eprint),
+    reader: Reader,
+    gaps: &[[u32; 32]],
+    surpluses: &[u32],
+    shares: &[i32],
+) {
     let mut out = [0u8; 128];
     let printed = reader.finish(gaps, surpluses, shares, &mut out);
-    write(printed, &out);
+    write(rt, printed, &out);
 }
 
 // A proved loop has to end, and nothing says that an input does: it counts down from a number that no input uses up.
-fn main() {
+fn main(rt: HostRuntime) {
+    let mut input = rt.stdin();
     let none = [0u32; 32];
     let mut gaps = [none; ROWS];
     let mut surpluses = [0u32; ROWS];
@@ -72,11 +104,11 @@ fn main() {
     let mut reader = Reader::new();
     let mut turns = u64::MAX;
     while turns > 0 {
-        let passed = turn(reader, &mut gaps, &mut surpluses, &mut shares);
+        let passed = turn(&mut input, reader, &mut gaps, &mut surpluses, &mut shares);
         let next = passed.reader;
         reader = next;
         if passed.ended {
-            end(reader, &gaps, &surpluses, &shares);
+            end(&rt, reader, &gaps, &surpluses, &shares);
             return;
         }
         turns -= 1;

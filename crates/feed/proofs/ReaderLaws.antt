@@ -473,7 +473,7 @@ module _ (start : Reader) {block out : List ℕ} {reader : Reader} {i : ℕ} {r 
   moved = so ∙ ap (forth i) m.is ∙ forth-turn i r.gatherer (turn_of (left_by r) m.text) r.used _
 
   by-text : (text : List ℕ) → m.text ≡ text → feed_of start block ≡ then_of (left_by r) text (i + r.used) (drop (i + r.used) block)
-  by-text text e = moved ∙ ap (λ (l : List ℕ). then_of (left_by r) l (i + r.used) (drop (i + r.used) block)) e
+  by-text said e = moved ∙ ap (λ (l : List ℕ). then_of (left_by r) l (i + r.used) (drop (i + r.used) block)) e
 
   pub so-on : r.printed ≡ 0 → So start block (left_by r) (i + r.used) × (out' ≡ out)
   so-on z = on-text m.text refl

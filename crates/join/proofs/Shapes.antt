@@ -361,6 +361,7 @@ module _ (last : Given) (line : List ℕ) (lines : List (List ℕ)) where
   first_step L.Malformed e a r = true-false a refl
 
 begun : (last : Given) (lines : List (List ℕ)) → Accepts nothing lines (these last) → Begun last lines
+begun last [] x' = elim x' [ ]
 begun last (line ∷ lines) (more f n r) = first_step last line lines (line_of line) refl f r
 
 -- ---- the whole input

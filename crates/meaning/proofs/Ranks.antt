@@ -13,7 +13,7 @@ use Rattle.channel.specs.Start.{Start, fresh, carried}
 use Rattle.vocabulary.specs.declared.acceptance.Bounds.{Bounds}
 use Rattle.meaning.specs.Given.{Given}
 use Rattle.meaning.specs.Meaning.{SoFar, nothing, these, bounds_from, bounds_grounds, setpoint_from, setpoint_grounds, contract_grounds, sample_grounds, end_grounds, grounds}
-use Rattle.meaning.specs.Calls.{Held, no_run, held, Call, opens, bounds_given, recalls, contracts, samples, takes, ends, call_grounds}
+use Rattle.meaning.specs.Calls.{Held, without_run, held, Call, opens, bounds_given, recalls, contracts, samples, takes, ends, call_grounds}
 
 bounds-ranked : (start : Start) (g : Given) (bounds : Bounds) → ranked (bounds_from start g bounds) ≡ true
 bounds-ranked fresh g bounds = refl
@@ -43,12 +43,12 @@ line-ranked (these g) identifier L.Malformed = refl
 pub call-ranked : (so : Held) (call : Call) → ranked (call_grounds so call) ≡ true
 unfolding call_grounds header_grounds bounds_grounds setpoint_grounds contract_grounds sample_grounds
 call-ranked so (opens h) = refl
-call-ranked no_run (bounds_given bounds) = refl
-call-ranked no_run (recalls s) = refl
-call-ranked no_run (contracts c identifier) = refl
-call-ranked no_run (samples x) = refl
-call-ranked no_run takes = refl
-call-ranked no_run ends = refl
+call-ranked without_run (bounds_given bounds) = refl
+call-ranked without_run (recalls s) = refl
+call-ranked without_run (contracts c identifier) = refl
+call-ranked without_run (samples x) = refl
+call-ranked without_run takes = refl
+call-ranked without_run ends = refl
 call-ranked (held g t) (bounds_given bounds) = bounds-ranked g.start g bounds
 call-ranked (held g t) (recalls s) = setpoint-ranked g.start g s
 call-ranked (held g t) (contracts c identifier) = refl

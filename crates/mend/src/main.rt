@@ -1,13 +1,15 @@
 // The mending program: standard input to standard output. What is printed for a recording is `mended` of the crate mending; here blocks are read, fed to
 // the reader, and what it prints is written out.
+#![tactic(auto)]
+
 ghost use Rattle.std.specs.Prelude.{◌≡◌, true, ◌≤◌, length};
 ghost use Rattle.mending.specs.Mender.{line_room};
 ghost use Rattle.sheets.specs.Buffer.{length_of};
 ghost use Rattle.mendfeed.specs.Feeding.{Through};
 
-use libc::{STDERR_FILENO, STDIN_FILENO, STDOUT_FILENO};
 use mendfeed::Reader;
 use sheets::Printed;
+use std::io::Read;
 
 // The reader after some input, and whether all that it printed could be written out.
 #[derive(Clone, Copy)]
@@ -19,6 +21,9 @@ struct Passed {
 // The buffer that the reader prints into: it is written out when no line more may fit, so the longer, the fewer writes.
 const BUFFER: usize = 65536;
 
+// So much is read at once.
+const BLOCK: usize = 65536;
+
 fn blank() -> [u8; BUFFER]
     ensures { 65536 ≡ length result }
 {
@@ -26,21 +31,21 @@ fn blank() -> [u8; BUFFER]
 }
 
 // Writes out what a call printed into a buffer; where that fails, it says so.
-fn written(printed: Printed, out: &[u8]) -> bool
+fn written(rt: &(impl Print + Eprint), printed: Printed, out: &[u8]) -> bool
     requires { length_of printed ≤ length out.now }
 {
     let Printed::Length(n) = printed else {
         return false;
     };
-    if io::write_all(STDOUT_FILENO, &out[..n]) {
+    if rt.write_all(&out[..n]).is_ok() {
         return true;
     }
-    io::write_all(STDERR_FILENO, b"mend: the output could not be written\n");
+    let _ = eprint!(rt; "mend: the output could not be written\n");
     false
 }
 
 // A block of the recording, fed to the reader until it is used up or nothing is read any more.
-fn fed(reader: Reader, block: &[u8], out: &mut [u8]) -> Passed
+fn fed(rt: &(impl Print + Eprint), reader: Reader, block: &[u8], out: &mut [u8]) -> Passed
     requires { line_room ≤ length out.old }
     ensures { result.wrote ≡ true → Through reader block.now result.reader }
 {
@@ -58,7 +63,7 @@ fn fed(reader: Reader, block: &[u8], out: &mut [u8]) -> Passed
         let printed = part.printed;
         now = next;
         i += part.used;
-        if !written(printed, out) {
+        if !written(rt, printed, out) {
             return Passed {
                 reader: now,
                 wrote: false,
@@ -71,26 +76,49 @@ fn fed(reader: Reader, block: &[u8], out: &mut [u8]) -> Passed
     }
 }
 
+// The block that is read into.
+fn no_block() -> [u8; BLOCK]
+    ensures { 65536 ≡ length result }
+{
+    [0u8; BLOCK]
+}
+
+// Reads once; answers how many bytes came, none where the recording has ended. A read that fails ends it too.
+fn read_once(input: &mut impl Read, block: &mut [u8]) -> usize
+    ensures { result ≤ length block.new }
+{
+    match input.read(block) {
+        Ok(n) => n,
+        Err(_) => 0,
+    }
+}
+
 // Reads once, and mends what came, or the recording's end.
-fn turn(reader: Reader, out: &mut [u8]) -> Passed
+fn turn(
+    rt: &(impl Print + Eprint),
+    input: &mut impl Read,
+    reader: Reader,
+    out: &mut [u8],
+) -> Passed
     requires { line_room ≤ length out.old }
 {
-    let mut block = io::large_buffer();
-    let n = io::count(libc::read(STDIN_FILENO, &mut block), &block);
+    let mut block = no_block();
+    let n = read_once(input, &mut block);
     if n != 0 {
-        return fed(reader, &block[..n], out);
+        return fed(rt, reader, &block[..n], out);
     }
     let ended = reader.finish(out);
     let last = ended.reader;
     let printed = ended.printed;
     Passed {
         reader: last,
-        wrote: written(printed, out),
+        wrote: written(rt, printed, out),
     }
 }
 
 // A proved loop has to end, and nothing says that an input does: it counts down from a number that no input uses up.
-fn main() {
+fn main(rt: HostRuntime) {
+    let mut input = rt.stdin();
     let mut reader = Reader::new();
     let mut out = blank();
     let mut turns = u64::MAX;
@@ -98,7 +126,7 @@ fn main() {
         if reader.is_closed() {
             return;
         }
-        let passed = turn(reader, &mut out);
+        let passed = turn(&rt, &mut input, reader, &mut out);
         if !passed.wrote {
             return;
         }

@@ -107,8 +107,8 @@ rows-from : {interval c e : ℕ} (a b : List Item) → c * interval ≤ 60 → R
 rows-from {c = c} [] b h r = record { so_far = c; small = h; rows = r }
 rows-from (stray s ∷ a) b h (of_stray r) = rows-from a b h r
 rows-from (repeated s ∷ a) b h (of_repeated r) = rows-from a b h r
-rows-from (filled s x ∷ a) b h (of_filled l r) = rows-from a b l r
-rows-from (kept x ∷ a) b h (of_kept r) = rows-from a b (omega arith) r
+rows-from {c = c} (filled s x ∷ a) b h (of_filled l r) = rows-from {c = c + 1} a b l r
+rows-from (kept x ∷ a) b h (of_kept r) = rows-from {c = 0} a b (omega arith) r
 rows-from (refused n x ∷ a) b h (of_refused r) = rows-from a b h r
 
 -- items of which none is kept
@@ -117,7 +117,7 @@ unfolding samples_in unfilled
 rows_run {interval} {c} [] b k h r = let e : c + 0 ≡ c = omega arith in rw e h
 rows_run (stray s ∷ a) b k h (of_stray r) = rows_run a b k h r
 rows_run (repeated s ∷ a) b k h (of_repeated r) = rows_run a b k h r
-rows_run {c = c} (filled s x ∷ a) b k h (of_filled l r) = let e : c + 1 + length (samples_in a) ≡ c + suc (length (samples_in a)) = omega arith in rw e at (rows_run a b k l r)
+rows_run {c = c} (filled s x ∷ a) b k h (of_filled l r) = let e : c + 1 + length (samples_in a) ≡ c + suc (length (samples_in a)) = omega arith in rw e at (rows_run {c = c + 1} a b k l r)
 rows_run (kept x ∷ a) b k h (of_kept r) = absurd (omega (arith, ap length k))
 rows_run (refused n x ∷ a) b k h (of_refused r) = rows_run a b k h r
 

@@ -160,10 +160,12 @@ plain-fair (of_filled f p) = of_more f (plain-fair p)
 plain-fair (of_kept f p) = of_more f (plain-fair p)
 
 no-refusal : (before after : List Item) (l : ℕ) (r : Refusal) → Plain (before ++ (refused l r ∷ after)) → ⊥
+no-refusal [] after l r x' = elim x' [ ]
 no-refusal (stray second ∷ before) after l r (of_stray p) = no-refusal before after l r p
 no-refusal (repeated second ∷ before) after l r (of_repeated p) = no-refusal before after l r p
 no-refusal (filled second x ∷ before) after l r (of_filled f p) = no-refusal before after l r p
 no-refusal (kept x ∷ before) after l r (of_kept f p) = no-refusal before after l r p
+no-refusal (refused _ _ ∷ before) after l r x6 = elim x6 [ ]
 
 plain-both : {a b : List Item} → Plain a → Plain b → Plain (a ++ b)
 plain-both no_item q = q

@@ -2,12 +2,6 @@
 use Rattle.std.proofs.Common.{◌≡◌, ℕ, zero, suc, ◌+◌, ◌*◌, ◌<◌, List, get_or, add-zero, arith}
 use Rattle.samples.specs.Front.{packed}
 
-pub record Bytes (s : List ℕ) (at : ℕ) : Type 0 where
-  pub first : get_or s at 0 < 256
-  pub second : get_or s (at + 1) 0 < 256
-  pub third : get_or s (at + 2) 0 < 256
-  pub fourth : get_or s (at + 3) 0 < 256
-
 -- four bytes, and four after them
 pub four : (s : List ℕ) (at : ℕ) → packed 4 s at ≡ get_or s at 0 + get_or s (at + 1) 0 * 256 + get_or s (at + 2) 0 * 65536 + get_or s (at + 3) 0 * 16777216
 unfolding packed

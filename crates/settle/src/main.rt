@@ -1,13 +1,15 @@
 // The settling program: standard input to standard output. What is printed for an input is `settled` of the crate meaning; here blocks are read, fed to
 // the reader, and what it prints is written out.
+#![tactic(auto)]
+
 ghost use Rattle.std.specs.Prelude.{◌≡◌, true, ◌+◌, ◌-◌, ◌≤◌, ◌<◌, length, take, drop};
 ghost use Rattle.sheets.specs.Buffer.{buffer_length, length_of};
 ghost use Rattle.feed.specs.Feeding.{Through};
 
 use feed::Reader;
-use libc::{STDERR_FILENO, STDIN_FILENO, STDOUT_FILENO};
 use samples::complete;
 use sheets::{BUFFER, Printed};
+use std::io::Read;
 
 // So much is read at once: a larger block has more pages to be made, and a smaller one is read more often.
 const BLOCK: usize = 65536;
@@ -35,21 +37,21 @@ fn blank() -> [u8; BUFFER]
 }
 
 // Writes out what a call printed into a buffer; where that fails, it says so.
-fn written(printed: Printed, out: &[u8]) -> bool
+fn written(rt: &(impl Print + Eprint), printed: Printed, out: &[u8]) -> bool
     requires { length_of printed ≤ length out.now }
 {
     let Printed::Length(n) = printed else {
         return false;
     };
-    if io::write_all(STDOUT_FILENO, &out[..n]) {
+    if rt.write_all(&out[..n]).is_ok() {
         return true;
     }
-    io::write_all(STDERR_FILENO, b"settle: the output could not be written\n");
+    let _ = eprint!(rt; "settle: the output could not be written\n");
     false
 }
 
 // A block of input, fed to the reader until it is used up or nothing is read any more.
-fn fed(reader: Reader, block: &[u8], out: &mut [u8]) -> Passed
+fn fed(rt: &(impl Print + Eprint), reader: Reader, block: &[u8], out: &mut [u8]) -> Passed
     requires { buffer_length ≤ length out.old }
     ensures { result.wrote ≡ true → Through reader block.now result.reader }
 {
@@ -67,7 +69,7 @@ fn fed(reader: Reader, block: &[u8], out: &mut [u8]) -> Passed
         let printed = part.printed;
         now = part.reader;
         i += part.used;
-        if !written(printed, out) {
+        if !written(rt, printed, out) {
             return Passed {
                 reader: now,
                 wrote: false,
@@ -112,7 +114,14 @@ fn left_over(block: &mut [u8], from: usize, to: usize) -> usize
 }
 
 // What is at hand, the first `all` bytes of a block: its whole lines are fed, and the rest is kept.
-fn turn(reader: Reader, block: &mut [u8], all: usize, ended: bool, out: &mut [u8]) -> Passed
+fn turn(
+    rt: &(impl Print + Eprint),
+    reader: Reader,
+    block: &mut [u8],
+    all: usize,
+    ended: bool,
+    out: &mut [u8],
+) -> Passed
     requires all_in_bounds { all ≤ length block.old }
     requires buffer_length_in_bounds { buffer_length ≤ length out.old }
     ensures fed { result.wrote ≡ true → Through reader (take (all - result.left) block.old) result.reader }
@@ -120,39 +129,42 @@ fn turn(reader: Reader, block: &mut [u8], all: usize, ended: bool, out: &mut [u8
     ensures fewer { (result.left ≤ all) × (0 < all → result.left < all) }
 {
     let end = fed_length(&block[..all], ended);
-    let mut passed = fed(reader, &block[..end], out);
+    let mut passed = fed(rt, reader, &block[..end], out);
     passed.left = left_over(block, end, all);
     passed
 }
 
-// Reads once, behind the bytes that are left; answers how many came, none where the input has ended.
-fn read_on(block: &mut [u8], left: usize) -> usize
+// Reads once, behind the bytes that are left; answers how many came, none where the input has ended. A read that fails ends it too.
+fn read_on(input: &mut impl Read, block: &mut [u8], left: usize) -> usize
     requires { left ≤ length block.old }
     ensures { left + result ≤ length block.old }
 {
-    let free = &mut block[left..];
-    io::count(libc::read(STDIN_FILENO, free), free)
+    match input.read(&mut block[left..]) {
+        Ok(n) => n,
+        Err(_) => 0,
+    }
 }
 
 // The input has ended.
-fn close(reader: Reader, out: &mut [u8])
+fn close(rt: &(impl Print + Eprint), reader: Reader, out: &mut [u8])
     requires { buffer_length ≤ length out.old }
 {
     let ended = reader.finish(out);
     let printed = ended.printed;
-    written(printed, out);
+    written(rt, printed, out);
 }
 
 // A proved loop has to end, and nothing says that an input does: it counts down from a number that no input uses up.
-fn main() {
+fn main(rt: HostRuntime) {
+    let mut input = rt.stdin();
     let mut reader = Reader::new();
     let mut block = no_block();
     let mut out = blank();
     let mut left = 0;
     let mut turns = u64::MAX;
     while turns > 0 {
-        let n = read_on(&mut block, left);
-        let passed = turn(reader, &mut block, left + n, n == 0, &mut out);
+        let n = read_on(&mut input, &mut block, left);
+        let passed = turn(&rt, reader, &mut block, left + n, n == 0, &mut out);
         if !passed.wrote {
             return;
         }
@@ -162,7 +174,7 @@ fn main() {
             return;
         }
         if n == 0 {
-            return close(reader, &mut out);
+            return close(&rt, reader, &mut out);
         }
         turns -= 1;
     }

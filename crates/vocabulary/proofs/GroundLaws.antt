@@ -36,6 +36,7 @@ ranked-next ground next grounds e =
 
 -- the first of them ranks before all others
 front-lowest : (ground other : Ground) (grounds : List Ground) → ranked (ground ∷ grounds) ≡ true → Among other grounds → rank_of ground.refusal ≤ rank_of other.refusal
+front-lowest ground other [] e a = elim a [ ]
 front-lowest ground other (next ∷ grounds) e at_front = ranked-next ground next grounds e
 front-lowest ground other (next ∷ grounds) e (further a) =
     let l = front-lowest next other grounds (ranked-rest ground (next ∷ grounds) e) a in
@@ -45,6 +46,7 @@ front-lowest ground other (next ∷ grounds) e (further a) =
 -- No ground that holds ranks before the one that is given.
 pub first-lowest : {grounds : List Ground} {refusal : Refusal} {other : Ground} → ranked grounds ≡ true → Earliest grounds refusal → Among other grounds → other.holds ≡ true
     → rank_of refusal ≤ rank_of other.refusal
+first-lowest r none a h = elim a [ ]
 first-lowest r (here {ground} {grounds} e) at_front h = omega arith
 first-lowest {other = other} r (here {ground} {grounds} e) (further a) h = front-lowest ground other grounds r a
 first-lowest r (later f x) at_front h = true-false h f

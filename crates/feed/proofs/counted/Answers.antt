@@ -5,10 +5,10 @@ use Rattle.std.proofs.Common.{rules}
 use Rattle.feed.proofs.counted.Goals as goal
 
 pub overflow_add-longer : goal.overflow_add-longer
-overflow_add-longer c = let start = c in omega (arith, start.requires.0)
+overflow_add-longer c = let start = c in omega (arith, start.requires.count_bound)
 
 pub returns : goal.returns
 returns c =
     let at-samples = c in
     let start = at-samples in
-    counted-steps start.requires.1 at-samples.samples-told.ensures c.length_of.ensures
+    counted-steps start.requires.buffer_length_in_bounds at-samples.samples-told.ensures c.length_of.ensures

@@ -8,10 +8,10 @@ use Rattle.std.proofs.Common.{rules}
 use Rattle.feed.proofs.next.Goals as goal
 
 pub returns-then-not-at_start : goal.returns-then-not-at_start
-returns-then-not-at_start c = found-line c.line_at_lem.ensures refl refl
+returns-then-not-at_start c = found-line c.line_at.ensures refl refl
 
 pub overflow_add-filled : goal.overflow_add-filled
-overflow_add-filled c = let start = c in omega (arith, start.requires.1, start.ranges)
+overflow_add-filled c = let start = c in omega (arith, start.requires.room_bound, start.ranges)
 
 pub returns-then-read-eq0 : goal.returns-then-read-eq0
 returns-then-read-eq0 c = let s = same-arrays c.read_samples-read.ensures c.if-read-eq0.true in found-line c.line_at-then-read-eq0.ensures s.0 s.1

@@ -7,8 +7,8 @@ pub counted-requires : goal.counted-requires
 counted-requires c =
     let at-if1 = c in
     let start = at-if1 in record {
-      count_bound = start.requires.0 at-if1.if-n-gt0.true;
-      buffer_length_in_bounds = start.requires.1;
+      count_bound = start.requires.samples_bound at-if1.if-n-gt0.true;
+      buffer_length_in_bounds = start.requires.buffer_length_in_bounds;
     }
 
 pub returns-then-n-gt0 : goal.returns-then-n-gt0

@@ -5,14 +5,14 @@ use Rattle.std.proofs.Common.{ℕ, ◌-◌, arith}
 use Rattle.mendfeed.proofs.rows_at.Goals as goal
 
 pub loop-so-init : goal.loop-so-init
-loop-so-init c = none_more c.requires.1 (omega arith)
+loop-so-init c = none_more c.requires.runnable (omega arith)
 
 pub row_at-more-requires : goal.row_at-more-requires
 row_at-more-requires c = record {
-      cut = c.requires.0;
-      runnable = c.loop-so.invariant.still;
-      to_lt_end = c.loop-so-test.true;
-    }
+  cut = c.requires.cut;
+  runnable = c.loop-so.invariant.still;
+  to_lt_end = c.loop-so-test.true;
+}
 
 pub shape_of-out-then-more-so : goal.shape_of-out-then-more-so
 shape_of-out-then-more-so c = runs-length (runs_then c.loop-so.invariant c.row_at-more.ensures)

@@ -3,7 +3,6 @@
 use lib.Seq.{set_out}
 use mathlib.Core.Path.{sym}
 use native.Mathlib.Omega.{arith}
-use Rattle.std.proofs.Common.{rules}
 use Rattle.print.proofs.put.Goals as goal
 
 pub returns-then-at-eq-LAST : goal.returns-then-at-eq-LAST

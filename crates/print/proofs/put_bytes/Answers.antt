@@ -1,13 +1,10 @@
 -- `print::put_bytes` meets its contract. The loop's invariant: the bytes passed are written.
 -- Assumes nothing.
-use Rattle.std.proofs.Common.{rules}
 use lib.Seq.{take-suc, take_all}
-use lib.ListN.{length, take}
 use native.Mathlib.Numerals.{add-one}
 use native.Mathlib.Omega.{arith}
-use Rattle.print.proofs.Writing.{join, wrote_nothing, wrote-length}
-use Rattle.print.specs.Print.{Wrote}
-use Prim.Native.Nat.{ℕ, ◌≤◌, ◌-◌}
+use Rattle.print.proofs.Writing.{join, wrote_nothing}
+use Prim.Native.Nat.{ℕ}
 use Rattle.print.proofs.put_bytes.Goals as goal
 
 pub loop-i-init : goal.loop-i-init

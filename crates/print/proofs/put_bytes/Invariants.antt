@@ -1,11 +1,6 @@
-use Rattle.std.proofs.Common.{rules}
-use lib.Seq.{take-suc, take_all}
 use lib.ListN.{length, take}
-use native.Mathlib.Numerals.{add-one}
-use native.Mathlib.Omega.{arith}
-use Rattle.print.proofs.Writing.{join, wrote_nothing, wrote-length}
 use Rattle.print.specs.Print.{Wrote}
-use Prim.Native.Nat.{ℕ, ◌≤◌, ◌-◌}
+use Prim.Native.Nat.{◌≤◌, ◌-◌}
 use Rattle.print.proofs.put_bytes.Given as goal
 
 abbrev pub invariant-loop-i : goal.invariant-loop-i

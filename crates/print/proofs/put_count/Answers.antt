@@ -1,7 +1,6 @@
 -- `print::put_count` meets its contract: one digit, or more.
 -- Assumes nothing.
 use Rattle.print.proofs.Digits.{digits-one}
-use Rattle.std.proofs.Common.{rules}
 use Rattle.print.proofs.put_count.Goals as goal
 
 pub returns-then-n-lt10 : goal.returns-then-n-lt10

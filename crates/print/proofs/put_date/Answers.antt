@@ -2,7 +2,6 @@
 -- Assumes nothing.
 use Rattle.print.proofs.Writing.{join}
 use Rattle.print.specs.Decimal.{date_text}
-use Rattle.std.proofs.Common.{rules}
 use Rattle.print.proofs.put_date.Goals as goal
 
 pub returns : goal.returns

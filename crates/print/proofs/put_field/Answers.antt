@@ -2,8 +2,7 @@
 -- Assumes nothing.
 use native.Mathlib.Omega.{arith}
 use Rattle.print.proofs.Digits.{digits-length}
-use Rattle.print.proofs.Writing.{join, wrote-length}
-use Rattle.std.proofs.Common.{rules}
+use Rattle.print.proofs.Writing.{join}
 use Rattle.print.proofs.put_field.Goals as goal
 
 pub returns : goal.returns

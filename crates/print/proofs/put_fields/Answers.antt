@@ -1,10 +1,7 @@
 -- `print::put_fields` meets its contract. The loop's invariant: the numbers passed are put, in at most 21 bytes each.
 -- Assumes nothing.
 use native.Mathlib.Omega.{arith}
-use Prim.Native.Nat.{◌-◌}
-use lib.ListN.{length}
-use Rattle.print.proofs.Writing.{wrote-length}
-use Rattle.print.proofs.FieldLaws.{Numbered, no-numbers, number_more, numbers-all}
+use Rattle.print.proofs.FieldLaws.{no-numbers, number_more, numbers-all}
 use Rattle.print.proofs.put_fields.Goals as goal
 
 pub loop-i-init : goal.loop-i-init
@@ -30,6 +27,6 @@ loop-i-preserved c =
 
 pub returns : goal.returns
 returns c = let together = numbers-all _ c.loop-i.i c.loop-i-test.false c.loop-i.invariant in record {
-      wrote = together.0;
-      short = together.1;
-    }
+  wrote = together.0;
+  short = together.1;
+}

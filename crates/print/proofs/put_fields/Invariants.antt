@@ -1,8 +1,6 @@
-use native.Mathlib.Omega.{arith}
 use Prim.Native.Nat.{◌-◌}
 use lib.ListN.{length}
-use Rattle.print.proofs.Writing.{wrote-length}
-use Rattle.print.proofs.FieldLaws.{Numbered, no-numbers, number_more, numbers-all}
+use Rattle.print.proofs.FieldLaws.{Numbered}
 use Rattle.print.proofs.put_fields.Given as goal
 
 abbrev pub invariant-loop-i : goal.invariant-loop-i

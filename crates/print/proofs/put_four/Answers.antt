@@ -2,7 +2,6 @@
 -- Assumes nothing.
 use Rattle.print.proofs.Writing.{join}
 use Rattle.print.specs.Decimal.{four_digits}
-use Rattle.std.proofs.Common.{rules}
 use Rattle.print.proofs.put_four.Goals as goal
 
 pub returns : goal.returns

@@ -2,7 +2,6 @@
 -- Assumes nothing.
 use Rattle.print.proofs.Digits.{text-negative, text-plain}
 use Rattle.print.proofs.Writing.{join}
-use Rattle.std.proofs.Common.{rules}
 use mir.Facts.{to_z-of_z}
 use lib.IntN.{nat_abs}
 use mathlib.Core.Path.{◌≡◌}

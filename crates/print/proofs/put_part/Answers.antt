@@ -1,7 +1,6 @@
 -- `print::put_part` meets its contract.
 -- Assumes nothing.
 use Rattle.print.proofs.Writing.{join}
-use Rattle.std.proofs.Common.{rules}
 use Rattle.print.proofs.put_part.Goals as goal
 
 pub returns : goal.returns

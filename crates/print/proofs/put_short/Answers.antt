@@ -2,7 +2,6 @@
 -- Assumes nothing.
 use Rattle.print.proofs.Digits.{digits-one, digits-two, digits-three, digits-four}
 use Rattle.print.proofs.Writing.{join}
-use Rattle.std.proofs.Common.{rules}
 use Rattle.print.proofs.put_short.Goals as goal
 
 pub returns-then-n-lt10 : goal.returns-then-n-lt10

@@ -2,7 +2,6 @@
 -- Assumes nothing.
 use Rattle.samples.proofs.DigitScan.{wrapped-digit, wrapped-value, wrapped-other, below-million, Midway, none_yet, one_more, stopped, all}
 use Rattle.std.proofs.Common.{◌≡◌, ◌+◌, ◌-◌, ◌<◌, get_or, arith, rules}
-use Rattle.samples.proofs.digits_at.Goals.{After-wrapping_sub_u32-digit}
 use Rattle.samples.proofs.digits_at.Goals as goal
 
 pub loop-k-init : goal.loop-k-init
@@ -17,32 +16,24 @@ bounds-bytes-from c = omega (arith, c.loop-k.invariant.here.within)
 pub overflow_cast-byte : goal.overflow_cast-byte
 overflow_cast-byte c =
     let l = c.loop-k in
-    let b = (c.shared_slice_known-in-loop-k-1.given (c.args.from + l.k)).fits in
+    let b = (c.type_inv.bytes (c.args.from + l.k)).fits in
     omega (arith, b)
 
 pub overflow_add-result : goal.overflow_add-result
 overflow_add-result c = omega (arith, c.loop-k.invariant.here.within)
-
--- what is known of the byte and of the value so far
-byte : (c : After-wrapping_sub_u32-digit invariant-loop decreases-loop)
-    → get_or c.args.bytes.now (c.args.from + c.loop-k.k) 0 < 256
-byte c = (c.shared_slice_known-in-loop-k-1.given (c.args.from + c.loop-k.k)).fits
-
-million : (c : After-wrapping_sub_u32-digit invariant-loop decreases-loop) → c.loop-k.value < 1000000
-million c = below-million _ _ c.loop-k.invariant.small c.loop-k-test.true
 
 pub returns-then-digit-gt9 : goal.returns-then-digit-gt9
 returns-then-digit-gt9 c =
     let l = c.loop-k in
     let d = c.wrapping_sub_u32-digit in
     stopped l.invariant c.loop-k-test.true
-    (wrapped-other _ d.result (byte c.before) (omega arith) d.ensures c.if-digit-gt9.true)
+    (wrapped-other _ d.result (c.type_inv.bytes (c.args.from + l.k)).fits (omega arith) d.ensures.value c.if-digit-gt9.true)
 
 pub overflow_mul-value : goal.overflow_mul-value
-overflow_mul-value c = let m = million c.before in omega arith
+overflow_mul-value c = let m = below-million _ _ c.loop-k.invariant.small c.loop-k-test.true in omega arith
 
 pub overflow_add-value : goal.overflow_add-value
-overflow_add-value c = let m = million c.before in omega (arith, c.if-digit-gt9.false)
+overflow_add-value c = let m = below-million _ _ c.loop-k.invariant.small c.loop-k-test.true in omega (arith, c.if-digit-gt9.false)
 
 pub overflow_add-k : goal.overflow_add-k
 overflow_add-k c = omega (arith, c.loop-k-test.true)
@@ -54,10 +45,10 @@ pub loop-k-preserved : goal.loop-k-preserved
 loop-k-preserved c =
     let l = c.loop-k in
     let d = c.wrapping_sub_u32-digit in
-    let few = byte c.before in
+    let few = (c.type_inv.bytes (c.args.from + l.k)).fits in
     one_more l.invariant c.loop-k-test.true
-    (wrapped-digit _ d.result few (omega arith) d.ensures c.if-digit-gt9.false)
-    (wrapped-value _ d.result few (omega arith) d.ensures c.if-digit-gt9.false) c.if-digit-gt9.false
+    (wrapped-digit _ d.result few (omega arith) d.ensures.value c.if-digit-gt9.false)
+    (wrapped-value _ d.result few (omega arith) d.ensures.value c.if-digit-gt9.false) c.if-digit-gt9.false
 
 pub overflow_add-result-2 : goal.overflow_add-result-2
 overflow_add-result-2 c = omega (arith, c.loop-k.invariant.here.within)

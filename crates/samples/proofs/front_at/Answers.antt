@@ -6,13 +6,13 @@ use Rattle.samples.proofs.PowerForm.{range_back}
 use Rattle.samples.proofs.front_at.Goals as goal
 
 pub bounds-lines-at : goal.bounds-lines-at
-bounds-lines-at c = c.requires.0.within
+bounds-lines-at c = c.requires.ended.within
 
 pub returns-then-lines-at-ne83 : goal.returns-then-lines-at-ne83
 returns-then-lines-at-ne83 c = no-letter c.if-lines-at-ne83.true
 
 pub bounds-lines-at-2 : goal.bounds-lines-at-2
-bounds-lines-at-2 c = (next c.requires.0 (λ e. omega arith)).within
+bounds-lines-at-2 c = (next c.requires.ended (λ e. omega arith)).within
 
 pub returns-then-lines-at-ne9 : goal.returns-then-lines-at-ne9
 returns-then-lines-at-ne9 c = no-first-tab c.if-lines-at-ne9.true
@@ -20,8 +20,8 @@ returns-then-lines-at-ne9 c = no-first-tab c.if-lines-at-ne9.true
 pub setpoint_at-requires : goal.setpoint_at-requires
 setpoint_at-requires c =
     let entry = c in record {
-      ended = skip entry.requires.0 (λ e. omega arith) (λ e. omega arith);
-      kept = entry.requires.1;
+      ended = skip entry.requires.ended (λ e. omega arith) (λ e. omega arith);
+      kept = entry.requires.kept;
     }
 
 pub returns-in_default : goal.returns-in_default

@@ -7,9 +7,9 @@ use Rattle.samples.proofs.row_at.Goals as goal
 
 pub field_at-requires : goal.field_at-requires
 field_at-requires c = record {
-      ended = c.requires;
-      end_bound = omega arith;
-    }
+  ended = c.requires;
+  end_bound = omega arith;
+}
 
 pub returns-in_default : goal.returns-in_default
 returns-in_default c = no-actual (rw c.in_default.is at c.field_at.ensures)

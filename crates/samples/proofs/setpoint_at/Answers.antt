@@ -6,9 +6,9 @@ use Rattle.samples.proofs.setpoint_at.Goals as goal
 
 pub same_setpoint-requires : goal.same_setpoint-requires
 same_setpoint-requires c = let together = c.requires in record {
-      ended = together.0;
-      kept = together.1;
-    }
+  ended = together.ended;
+  kept = together.kept;
+}
 
 pub overflow_sub-result : goal.overflow_sub-result
 overflow_sub-result c = c.same_setpoint.ensures.wide c.if-same_setpoint.true
@@ -24,9 +24,9 @@ returns-then-same_setpoint c =
 
 pub field_at-requires : goal.field_at-requires
 field_at-requires c = record {
-      ended = c.requires.0;
-      end_bound = omega arith;
-    }
+  ended = c.requires.ended;
+  end_bound = omega arith;
+}
 
 pub returns : goal.returns
 returns c = c.field_at.ensures

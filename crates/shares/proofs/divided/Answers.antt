@@ -10,14 +10,8 @@ use native.Mathlib.Omega.{arith}
 use native.Mathlib.Nat.{mul-le-mul}
 use mathlib.Core.Path.{◌∙◌, sym}
 use Prim.Native.Nat.{ℕ, ◌-◌}
+use Rattle.shares.proofs.divided.Invariants.{down, rest}
 use Rattle.shares.proofs.divided.Goals as goal
-
--- the share rounded down, and the remainder, of a gap in kWh
-abbrev down : ℕ → ℕ → Kwh → ℕ
-down handed total gap = share_floor handed total (amount gap)
-
-abbrev rest : ℕ → ℕ → Kwh → ℕ
-rest handed total gap = remainder handed total (amount gap)
 
 pub loop-k-init : goal.loop-k-init
 loop-k-init c = (mapped-none (down c.args.handed c.args.total) c.args.gaps (replicate 32 0), mapped-none (rest c.args.handed c.args.total) c.args.gaps (replicate 32 0))

@@ -1,6 +1,5 @@
 -- `arithmetic::date::february_length` meets its contract.
 -- Assumes nothing.
-use Rattle.std.proofs.Common.{rules}
 use Rattle.arithmetic.specs.Date.{february_length}
 use Rattle.arithmetic.proofs.date.february_length.Goals as goal
 

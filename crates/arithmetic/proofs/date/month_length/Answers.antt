@@ -1,7 +1,6 @@
 -- `arithmetic::date::month_length` meets its contract.
 -- Assumes nothing.
 use native.Mathlib.Omega.{arith}
-use Rattle.std.proofs.Common.{rules}
 use borrow.Author.Tests.{le-leb, lt-leb, eq-eqb, ne_eqb}
 use Rattle.arithmetic.specs.Date.{month_length}
 use Rattle.arithmetic.proofs.date.month_length.Goals as goal

@@ -1,7 +1,6 @@
 -- `arithmetic::date::usual_length` meets its contract.
 -- Assumes nothing.
 use native.Mathlib.Omega.{arith}
-use Rattle.std.proofs.Common.{rules}
 use borrow.Author.Tests.{le-leb, lt-leb}
 use Rattle.arithmetic.specs.Date.{usual_length}
 use Rattle.arithmetic.proofs.date.usual_length.Goals as goal

@@ -1,6 +1,5 @@
 -- `arithmetic::energy::energy` meets its contract.
 -- Assumes nothing.
-use Rattle.std.proofs.Common.{rules}
 use native.Mathlib.Omega.{arith}
 use Rattle.arithmetic.specs.Whole.{least_of}
 use Rattle.arithmetic.specs.Energy.{energy_of}

@@ -1,6 +1,5 @@
 -- `arithmetic::energy::whole_kwh` meets its contract: a division of the sum in two steps.
 -- Assumes nothing.
-use Rattle.std.proofs.Common.{rules}
 use native.Mathlib.Omega.{arith}
 use Rattle.arithmetic.specs.Energy.{kwh_of}
 use Rattle.arithmetic.proofs.energy.whole_kwh.Goals as goal

@@ -1,6 +1,5 @@
 -- `arithmetic::power::scaled` meets its contract: 31 bits times 16 fit 63.
 -- Assumes nothing.
-use Rattle.std.proofs.Common.{rules}
 use native.Mathlib.Omega.{arith}
 use lib.IntN.{pos, ◌*ℤ◌}
 use mir.Syntax.{w32, w64}

@@ -3,7 +3,6 @@
 use native.Mathlib.Omega.{arith}
 use mir.ValLaws.{to_z-of_z}
 use mir.Syntax.{w32, w64}
-use Rattle.std.proofs.Common.{rules}
 use Rattle.arithmetic.proofs.Signed.{wide, fits-up}
 use Rattle.arithmetic.proofs.whole.above_zero.Goals as goal
 

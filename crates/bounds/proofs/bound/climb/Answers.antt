@@ -12,7 +12,7 @@ use Rattle.arithmetic.specs.Whole.{max_z}
 use Rattle.arithmetic.proofs.Signed.{back}
 use Rattle.bounds.proofs.Scan.{widened, wide_fits, within}
 use Rattle.bounds.proofs.Range.{spread-within, spread-fits, gradient-fits, gradient-down, gradient-up}
-use Rattle.bounds.proofs.bound.climb.Goals.{After-larger-steepest, After-struct_known-1}
+use Rattle.bounds.proofs.bound.climb.Goals.{After-struct_known-1}
 use Rattle.bounds.proofs.bound.climb.Goals as goal
 
 pub overflow_cast-most : goal.overflow_cast-most
@@ -29,7 +29,7 @@ short : (c : After-struct_known-1) → c.windows-windows.result.seconds ≤ 4
 short c = rw c.windows-windows.ensures (within c.args.interval).short
 
 -- the steepest of lot and spread
-steepest : (c : After-larger-steepest) → c.larger-steepest.result ≡ max_z (pos c.args.lot) (c.args.most -ℤ c.args.least)
+steepest : (c : After-struct_known-1) → c.larger-steepest.result ≡ max_z (pos c.args.lot) (c.args.most -ℤ c.args.least)
 steepest c =
     let a = c in
     let spread = to_z-of_z w64 (a.args.most -ℤ a.args.least) (spread-fits a.ranges.most a.ranges.least) in
@@ -42,7 +42,7 @@ overflow_mul-result c = record { fits = omega (arith, short (goal.at.overflow_mu
 factors : (c : After-struct_known-1) → to_z w64 (of_z w64 c.larger-steepest.result) *ℤ to_z w64 (20 * c.windows-windows.result.seconds)
     ≡ max_z (pos c.args.lot) (c.args.most -ℤ c.args.least) *ℤ pos (20 * c.windows-windows.result.seconds)
 factors c =
-    rw (back {z = c.larger-steepest.result} c.larger-steepest.type_inv, to_z_pos w64 (20 * c.windows-windows.result.seconds) (omega (arith, short c)), steepest c.before)
+    rw (back {z = c.larger-steepest.result} c.larger-steepest.type_inv, to_z_pos w64 (20 * c.windows-windows.result.seconds) (omega (arith, short c)), steepest c)
 
 fit : (c : After-struct_known-1)
     → SFits w64 (max_z (pos c.args.lot) (c.args.most -ℤ c.args.least) *ℤ pos (20 * c.windows-windows.result.seconds))
@@ -51,7 +51,7 @@ fit c =
     gradient-fits a.args.lot c.windows-windows.result.seconds (a.args.most -ℤ a.args.least) (omega arith) (short c) (spread-within a.ranges.most a.ranges.least).0
 
 pub overflow_mul-result-2 : goal.overflow_mul-result-2
-overflow_mul-result-2 c = rw (factors (goal.at.overflow_mul-result-2 c).After-struct_known-1) (fit c)
+overflow_mul-result-2 c = rw (factors (goal.at.overflow_mul-result-2 c).After-struct_known-1) (fit (goal.at.overflow_mul-result-2 c).After-struct_known-1)
 
 pub returns : goal.returns
 returns c =
@@ -59,7 +59,7 @@ returns c =
     let n = c.windows-windows.result.seconds in
     let s = a.args.most -ℤ a.args.least in
     let w = (spread-within a.ranges.most a.ranges.least).0 in
-    rw (factors (goal.at.returns c).After-struct_known-1, to_z-of_z w64 (max_z (pos a.args.lot) s *ℤ pos (20 * n)) (fit c)) (
+    rw (factors (goal.at.returns c).After-struct_known-1, to_z-of_z w64 (max_z (pos a.args.lot) s *ℤ pos (20 * n)) (fit (goal.at.returns c).After-struct_known-1)) (
       rw c.windows-windows.ensures,
       (
         gradient-down a.args.lot n s,

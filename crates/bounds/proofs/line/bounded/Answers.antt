@@ -132,7 +132,7 @@ loop-i-preserved c =
       next.ensures.1,
       λ line held same s.
           let m = midway-more a.interval a.lot line held a.ogas.now a.ugas.now a.n a.highest.now a.lowest.now a.most.now a.least.now s
-          start.requires.1.0 start.requires.1.1 in
+          start.requires.n_in_bounds.0 start.requires.n_in_bounds.1 in
           rw (oga, uga) (m l.last r l.ogas l.ugas l.i h high_fits low_fits e (l.invariant.4 line held same s)),
     )
 

@@ -1,36 +1,30 @@
 -- `bounds::line::lead` meets its contract: a flat line has its own windows, and for those of any other there is room.
 -- Assumes nothing.
 use native.Mathlib.Omega.{arith}
-use Prim.Native.Nat.{◌+◌, ◌≤◌}
+use mathlib.Core.Path.{◌≡◌}
+use Prim.Native.Nat.{ℕ, ◌+◌, ◌≤◌}
 use Rattle.std.proofs.Common.{rules}
 use lib.ListN.{length}
 use Rattle.arithmetic.specs.Whole.{least_of}
 use Rattle.bounds.specs.Line.{led_count}
 use Rattle.bounds.proofs.LineLaws.{flat-shown}
-use Rattle.bounds.proofs.line.lead.Goals.{After-led_count-n, After-show-2}
 use Rattle.bounds.proofs.line.lead.Goals as goal
 
 -- there is room for all that are led along, in the line and in both series
-fits : (c : After-led_count-n)
-    → ((c.led_count-n.result ≤ 900) × (302 + c.led_count-n.result ≤ 1202))
-    × ((c.led_count-n.result ≤ length c.args.ogas.now) × (c.led_count-n.result ≤ length c.args.ugas.now))
+fits : (n count ogas ugas : ℕ) → n ≡ led_count count ogas ugas → ((n ≤ 900) × (302 + n ≤ 1202)) × ((n ≤ ogas) × (n ≤ ugas))
 unfolding led_count least_of
-fits c = omega (arith, c.led_count-n.ensures)
-
--- from the windows of the lower side back to how many are led along
-abbrev counted : (c : After-show-2) → After-led_count-n
-counted c = c.before
+fits n count ogas ugas e = omega (arith, e)
 
 pub overflow_add-n : goal.overflow_add-n
-overflow_add-n c = omega (arith, fits c.before)
+overflow_add-n c = omega (arith, fits c.led_count-n.result _ _ _ c.led_count-n.ensures)
 
 pub is_flat-requires : goal.is_flat-requires
-is_flat-requires c = omega (arith, fits c.before, c.well_formed)
+is_flat-requires c = omega (arith, fits c.led_count-n.result _ _ _ c.led_count-n.ensures)
 
 pub bounded-requires : goal.bounded-requires
 bounded-requires c =
-    let f = c in
-    omega (arith, fits f, f.well_formed)
+    let f = fits c.led_count-n.result _ _ _ c.led_count-n.ensures in
+    record { n_bound = omega arith; n_in_bounds = f.1 }
 
 pub returns-then-is_flat : goal.returns-then-is_flat
 returns-then-is_flat c =
@@ -42,18 +36,18 @@ returns-then-is_flat c =
 
 pub show-requires : goal.show-requires
 show-requires c =
-    let f = c in
-    omega (arith, fits f, f.well_formed)
+    let f = fits c.led_count-n.result _ _ _ c.led_count-n.ensures in
+    omega arith
 
 pub show-requires-2 : goal.show-requires-2
 show-requires-2 c =
-    let f = c in
-    omega (arith, fits f, f.well_formed)
+    let f = fits c.led_count-n.result _ _ _ c.led_count-n.ensures in
+    omega arith
 
 pub bounded-requires-2 : goal.bounded-requires-2
 bounded-requires-2 c =
-    let f = counted (goal.at.bounded-requires-2 c).After-show-2 in
-    omega (arith, fits f, f.good)
+    let f = fits c.led_count-n.result _ _ _ c.led_count-n.ensures in
+    record { n_bound = omega arith; n_in_bounds = f.1 }
 
 pub returns : goal.returns
 returns c =

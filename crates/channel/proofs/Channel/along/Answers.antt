@@ -29,8 +29,8 @@ pub tracked-requires : goal.tracked-requires
 tracked-requires c =
     let n = c in
     let some = c.if-n-eq0.false in record {
-      begun_value = (rw c.primed.ensures (primed-true n.args.self _), (omega (arith, some), (fits n).0));
-      n_in_bounds = (fits n).1;
+      begun_value = (rw c.primed.ensures (primed-true n.args.self _), (omega (arith, some), (fits (goal.at.tracked-requires c).After-led_count-n).0));
+      n_in_bounds = (fits (goal.at.tracked-requires c).After-led_count-n).1;
     }
 
 pub returns : goal.returns

@@ -8,6 +8,6 @@ use Rattle.channel.proofs.Channel.bounded.Goals as goal
 pub returns : goal.returns
 unfolding bounded_of
 returns c = record {
-      step = refl;
-      series = λ i lot b r. bounds_given c.args.self c.args.oga.0 c.args.uga.0 b r;
-    }
+  step = refl;
+  series = λ i lot b r. bounds_given c.args.self c.args.oga.0 c.args.uga.0 b r;
+}

@@ -8,6 +8,6 @@ use Rattle.channel.proofs.Channel.new.Goals as goal
 pub returns : goal.returns
 unfolding new_of
 returns c = record {
-      step = refl;
-      series = new-stands c.args.interval c.args.lot;
-    }
+  step = refl;
+  series = new-stands c.args.interval c.args.lot;
+}

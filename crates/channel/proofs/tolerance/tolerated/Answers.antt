@@ -37,7 +37,7 @@ returns-in-Upper c =
     let at_place = at-enum-told in
     let d = at_place in
     let a = d.args in
-    let by = c.by_sign_lem in
+    let by = c.by_sign in
     rw (
       at-enum-told.in-Upper.is,
       back c.larger.type_inv,
@@ -49,8 +49,8 @@ returns-in-Upper c =
       back {z = d.scaled-more.result.0}
           at-struct-told2.struct_told-in-Upper-1.given.0.1,
       back {z = d.scaled-less.result.0} at-struct-told3.struct_told-in-Upper-2-1.given.0.1,
-      more d,
-      less d,
+      more (goal.at.returns-in-Upper c).After-scaled-less,
+      less (goal.at.returns-in-Upper c).After-scaled-less,
     )
     (chosen max_z (le_z (pos 0) a.bound.0) (five_percent_more a.setpoint) (five_percent_less a.setpoint) a.bound.0)
 
@@ -75,7 +75,7 @@ returns-in-Lower c =
       back {z = d.scaled-more.result.0}
           at-struct-told7.struct_told-in-Lower-3-1.given.0.1,
       back {z = d.scaled-less.result.0} at-struct-told6.struct_told-in-Lower-2-1.given.0.1,
-      more d,
-      less d,
+      more (goal.at.returns-in-Lower c).After-scaled-less,
+      less (goal.at.returns-in-Lower c).After-scaled-less,
     )
     (chosen min_z (le_z (pos 0) a.bound.0) (five_percent_less a.setpoint) (five_percent_more a.setpoint) a.bound.0)

@@ -70,7 +70,7 @@ loop-k-preserved c =
     let l = c.loop-k in
     let z = back_in a.ring a.newest (l.k + 1) in
     let x : SFits w32 z = sfits_of c.farther-arg-1.given in
-    let e : to_z w64 (of_z w64 c.farther-found.result) ≡ farther_of a.side (to_z w64 l.found) z = back c.farther-found.type_inv ∙ c.farther-found.ensures ∙ rw (widened x) in (
+    let e : to_z w64 (of_z w64 c.farther-found.result) ≡ farther_of a.side (to_z w64 l.found-bits) z = back c.farther-found.type_inv ∙ c.farther-found.ensures ∙ rw (widened x) in (
       (omega arith, omega arith),
       (
         e
@@ -86,4 +86,4 @@ pub returns : goal.returns
 returns c =
     let l = c.loop-k in
     let e : l.k ≡ c.args.to = omega arith in
-    to_z-of_z w32 (to_z w64 l.found) l.invariant.1.1 ∙ l.invariant.1.0 ∙ rw e
+    to_z-of_z w32 (to_z w64 l.found-bits) l.invariant.1.1 ∙ l.invariant.1.0 ∙ rw e

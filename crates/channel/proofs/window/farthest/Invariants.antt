@@ -15,7 +15,7 @@ use Rattle.channel.proofs.window.farthest.Given as goal
 
 abbrev pub invariant-loop-k : goal.invariant-loop-k
 invariant-loop-k l =
-    ((l.from ≤ l.k) × (l.k ≤ l.to)) × ((to_z w64 l.found ≡ over (farther_of l.side) (back_in l.ring l.newest) l.from (l.k - l.from)) × SFits w32 (to_z w64 l.found))
+    ((l.from ≤ l.k) × (l.k ≤ l.to)) × ((l.found ≡ over (farther_of l.side) (back_in l.ring l.newest) l.from (l.k - l.from)) × SFits w32 l.found)
 
 abbrev pub decreases-loop-k : goal.decreases-loop-k
 decreases-loop-k l = l.to - l.k

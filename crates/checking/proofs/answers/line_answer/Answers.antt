@@ -1,6 +1,5 @@
 -- `checking::answers::line_answer` meets its contract. Assumes nothing.
-use Rattle.std.proofs.Common.{to_z-of_z, w32, rules}
-use borrow.Author.Rules.{sfits_of}
+use Rattle.std.proofs.Common.{◌≡◌, to_z, of_z, w32, rules}
 use Rattle.checking.proofs.answers.line_answer.Goals as goal
 
 pub returns-in-Header : goal.returns-in-Header
@@ -11,7 +10,8 @@ returns-in-Bounds c = rw c.in-Bounds.is c.bounds.ensures
 
 pub returns-in-Setpoint : goal.returns-in-Setpoint
 returns-in-Setpoint c =
-    let answer = rw (to_z-of_z {w = w32} (sfits_of c.known_told-in-Setpoint-1.given.0.1)) at c.setpoint.ensures in
+    let same : to_z w32 (of_z w32 c.in-Setpoint.setpoint) ≡ c.in-Setpoint.setpoint = search rules in
+    let answer = rw same at c.setpoint.ensures in
     rw c.in-Setpoint.is answer
 
 pub returns-in-Contract : goal.returns-in-Contract

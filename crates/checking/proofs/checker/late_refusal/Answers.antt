@@ -4,9 +4,9 @@ use Rattle.checking.proofs.checker.late_refusal.Goals as goal
 
 pub returns-in-Settling : goal.returns-in-Settling
 returns-in-Settling c = record {
-      is = rw c.in-Settling.is c.too_late.ensures.is;
-      few = λ z. omega (arith, c.too_late.ensures.some, z);
-    }
+  is = rw c.in-Settling.is c.too_late.ensures.is;
+  few = λ z. omega (arith, c.too_late.ensures.some, z);
+}
 
 pub returns-in-Share : goal.returns-in-Share
 returns-in-Share c =

@@ -8,89 +8,81 @@ use Rattle.contracts.specs.Terms.{terms_in}
 use Rattle.claims.specs.Claims.{samples_of, measured_held}
 use Rattle.claims.specs.Room.{Led}
 use Rattle.claims.proofs.Following.{quarter-of, samples-led, enough-led, timely, measured-led}
-use Rattle.claims.proofs.hour.measure.Goals.{After-along-after, Start}
+use Rattle.claims.proofs.hour.measure.Goals.{After-along-after}
 use Rattle.claims.proofs.hour.measure.Goals as goal
-
--- from the channel led along to the start
-abbrev start : (c : After-along-after) → Start
-start c = c.before
 
 -- the channel was led along the whole quarter hour
 followed : (c : After-along-after)
-    → let blank = c in
-    let a = blank.args in
-    Follows a.channel (take (windows_of a.channel.interval-interval).samples a.setpoints) blank.no_bounds-ogas.result blank.no_bounds-ogas.result
-    c.along-after.new.1.1.1.0 c.along-after.new.1.1.1.1.0 c.along-after.result
+    → let a = c.args in
+    Follows a.channel (take (windows_of a.channel.interval).samples a.setpoints) c.no_bounds-ogas.result c.no_bounds-ogas.result
+    c.along-after.new.ogas c.along-after.new.ugas c.along-after.result
 followed c =
-    let windows = c in
-    let i = (start c).args.channel.interval-interval in
+    let i = c.args.channel.interval in
     let few = (quarter-of i (windows_of i).samples refl).0 in
     let blank = c.no_bounds-ogas in
     let long = length blank.result in
     let all = count-all (windows_of i).samples long long few (omega (arith, few, blank.ensures)) (omega (arith, few, blank.ensures)) in
-    rw (c.sized.ensures.0, windows.windows-windows.ensures, windows.interval-interval.ensures, all) at c.along-after.ensures
+    rw (c.sized.ensures.0, c.windows-windows.ensures, c.interval-interval.ensures, all) at c.along-after.ensures
 
 -- so there are bounds for all its samples
-bounds : (c : After-along-after) → Led c.along-after.new.1.1.1.0 c.along-after.new.1.1.1.1.0 c.windows-windows.result.samples
+bounds : (c : After-along-after) → Led c.along-after.new.ogas c.along-after.new.ugas c.windows-windows.result.samples
 bounds c =
     let w = c in
-    let a = (start c).args in
+    let a = c.args in
     let ch = a.channel in
-    rw (w.windows-windows.ensures, w.interval-interval.ensures) (enough-led ch ch.interval-interval a.setpoints a.actuals (omega (arith, (start c).well_formed)) (followed c))
+    rw (w.windows-windows.ensures, w.interval-interval.ensures) (enough-led ch ch.interval a.setpoints a.actuals (omega arith) (followed c))
 
 pub slice_bounds-setpoints-end : goal.slice_bounds-setpoints-end
-slice_bounds-setpoints-end c = let t = c in omega (arith, (bounds t).few, (start t).well_formed)
+slice_bounds-setpoints-end c = let t = (goal.at.slice_bounds-setpoints-end c).After-along-after in omega (arith, (bounds t).few)
 
 pub slice_bounds-both-end : goal.slice_bounds-both-end
 slice_bounds-both-end c =
-    let t = c in
-    sym (length-take-le t.windows-windows.result.samples (start t).args.setpoints (omega (arith, (bounds t).few, (start t).well_formed)))
+    let t = (goal.at.slice_bounds-both-end c).After-along-after in
+    sym (length-take-le t.windows-windows.result.samples t.args.setpoints (omega (arith, (bounds t).few)))
 
 pub slice_bounds-actuals-end : goal.slice_bounds-actuals-end
-slice_bounds-actuals-end c = let t = c in omega (arith, (bounds t).few, (start t).well_formed)
+slice_bounds-actuals-end c = let t = (goal.at.slice_bounds-actuals-end c).After-along-after in omega (arith, (bounds t).few)
 
 pub slice_bounds-both-end-2 : goal.slice_bounds-both-end-2
 slice_bounds-both-end-2 c =
-    let t = c in
-    sym (length-take-le t.windows-windows.result.samples (start t).args.actuals (omega (arith, (bounds t).few, (start t).well_formed)))
+    let t = (goal.at.slice_bounds-both-end-2 c).After-along-after in
+    sym (length-take-le t.windows-windows.result.samples t.args.actuals (omega (arith, (bounds t).few)))
 
 pub slice_bounds-ogas-end : goal.slice_bounds-ogas-end
 slice_bounds-ogas-end c = (bounds (goal.at.slice_bounds-ogas-end c).After-along-after).ogas
 
 pub slice_bounds-both-end-3 : goal.slice_bounds-both-end-3
 slice_bounds-both-end-3 c =
-    let t = c in
+    let t = (goal.at.slice_bounds-both-end-3 c).After-along-after in
     let w = t in
-    sym (length-take-le w.windows-windows.result.samples t.along-after.new.1.1.1.0 (bounds t).ogas)
+    sym (length-take-le w.windows-windows.result.samples t.along-after.new.ogas (bounds t).ogas)
 
 pub slice_bounds-ugas-end : goal.slice_bounds-ugas-end
 slice_bounds-ugas-end c = (bounds (goal.at.slice_bounds-ugas-end c).After-along-after).ugas
 
 pub slice_bounds-both-end-4 : goal.slice_bounds-both-end-4
 slice_bounds-both-end-4 c =
-    let t = c in
+    let t = (goal.at.slice_bounds-both-end-4 c).After-along-after in
     let w = t in
-    sym (length-take-le w.windows-windows.result.samples t.along-after.new.1.1.1.1.0 (bounds t).ugas)
+    sym (length-take-le w.windows-windows.result.samples t.along-after.new.ugas (bounds t).ugas)
 
 pub both-requires : goal.both-requires
 both-requires c =
-    let t = c in
+    let t = (goal.at.both-requires c).After-along-after in
     let w = t in
-    let s = start t in
-    let a = s.args in
+    let a = t.args in
     let ch = a.channel in
-    let held : 900 ≤ length a.setpoints = omega (arith, s.good) in
-    rw (w.windows-windows.ensures, w.interval-interval.ensures, samples-led ch ch.interval-interval a.setpoints a.actuals held (followed t))
-    (timely ch ch.interval-interval a.setpoints a.actuals held (omega (arith, s.good)) t.sized.ensures.1)
+    let held : 900 ≤ length a.setpoints = omega arith in
+    rw (w.windows-windows.ensures, w.interval-interval.ensures, samples-led ch ch.interval a.setpoints a.actuals held (followed t))
+    (timely ch ch.interval a.setpoints a.actuals held (omega arith) t.sized.ensures.1)
 
 pub returns : goal.returns
 unfolding measured_held samples_of
 returns c =
-    let t = c in
+    let t = (goal.at.returns c).After-along-after in
     let w = t in
-    let s = start t in
-    let a = s.args in
+    let a = t.args in
     let ch = a.channel in
-    let held : 900 ≤ length a.setpoints = omega (arith, s.good) in
+    let held : 900 ≤ length a.setpoints = omega arith in
     rw (c.both.ensures, w.windows-windows.ensures, w.interval-interval.ensures)
-    (measured-led ch ch.interval-interval a.setpoints a.actuals held (followed t) (terms_in a.positive) (terms_in a.negative))
+    (measured-led ch ch.interval a.setpoints a.actuals held (followed t) (terms_in a.positive) (terms_in a.negative))

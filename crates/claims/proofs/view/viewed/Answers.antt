@@ -9,13 +9,10 @@ use Rattle.claims.proofs.view.viewed.Goals.{After-amounts_of-amounts}
 use Rattle.claims.proofs.view.viewed.Goals as goal
 
 -- there is room for one more
-spot : (c : After-amounts_of-amounts invariant-loop decreases-loop) → c.loop-i.count < 900
-spot c =
-    let test = c in
-    let s = test in
-    omega (arith, test.loop-i.invariant.1.few, test.loop-i-test.true, s.requires.0.few)
+spot : (c : After-amounts_of-amounts) → c.loop-i.count < 900
+spot c = omega (arith, c.loop-i.invariant.1.few, c.loop-i-test.true, c.requires.0.few)
 
-spot-short : (c : After-amounts_of-amounts invariant-loop decreases-loop) → c.loop-i.short < 900
+spot-short : (c : After-amounts_of-amounts) → c.loop-i.short < 900
 spot-short c = omega (arith, spot c, c.loop-i.invariant.1.written.fewer)
 
 pub loop-i-init : goal.loop-i-init
@@ -36,55 +33,52 @@ loop-i-smaller-then-idle c = omega arith
 
 pub loop-i-preserved-then-idle : goal.loop-i-preserved-then-idle
 loop-i-preserved-then-idle c =
-    let l = c in
-    let s = l in
-    let a = s.args in
+    let a = c.args in
     let x = samples a.setpoints.now a.actuals.now a.ogas.now a.ugas.now in
-    let v = l.loop-i in
-    let h = c.loop-i-test.true in (
+    let v = c.loop-i in (
       omega arith,
-      viewed-idle a.direction x v.asked v.accepted v.required v.inner v.auto c.faced-part.result v.count v.short
-          v.surplus v.under_delivery v.i h c.faced-part.ensures v.invariant.1 (sym c.idle.ensures ∙ c.if-idle.true),
+      viewed-idle a.direction x v.asked v.accepted v.required v.inner v.kept c.faced-part.result v.count v.short
+          v.surplus v.under_delivery v.i c.loop-i-test.true c.faced-part.ensures v.invariant.1 (sym c.idle.ensures ∙ c.if-idle.true),
     )
 
 pub offset_bounds-asked-count : goal.offset_bounds-asked-count
-offset_bounds-asked-count c = omega (arith, spot c)
+offset_bounds-asked-count c = omega (arith, spot (goal.at.offset_bounds-asked-count c).After-amounts_of-amounts)
 
 pub bounds-asked-count : goal.bounds-asked-count
-bounds-asked-count c = omega (arith, spot c, c.loop-i.invariant.1.room.asked)
+bounds-asked-count c = omega (arith, spot (goal.at.bounds-asked-count c).After-amounts_of-amounts, c.loop-i.invariant.1.room.asked)
 
 pub offset_bounds-accepted-count : goal.offset_bounds-accepted-count
-offset_bounds-accepted-count c = omega (arith, spot c)
+offset_bounds-accepted-count c = omega (arith, spot (goal.at.offset_bounds-accepted-count c).After-amounts_of-amounts)
 
 pub bounds-accepted-count : goal.bounds-accepted-count
-bounds-accepted-count c = omega (arith, spot c, c.loop-i.invariant.1.room.accepted)
+bounds-accepted-count c = omega (arith, spot (goal.at.bounds-accepted-count c).After-amounts_of-amounts, c.loop-i.invariant.1.room.accepted)
 
 pub offset_bounds-required-count : goal.offset_bounds-required-count
-offset_bounds-required-count c = omega (arith, spot c)
+offset_bounds-required-count c = omega (arith, spot (goal.at.offset_bounds-required-count c).After-amounts_of-amounts)
 
 pub bounds-required-count : goal.bounds-required-count
-bounds-required-count c = omega (arith, spot c, c.loop-i.invariant.1.room.required)
+bounds-required-count c = omega (arith, spot (goal.at.bounds-required-count c).After-amounts_of-amounts, c.loop-i.invariant.1.room.required)
 
 pub offset_bounds-inner-short : goal.offset_bounds-inner-short
-offset_bounds-inner-short c = omega (arith, spot-short c)
+offset_bounds-inner-short c = omega (arith, spot-short (goal.at.offset_bounds-inner-short c).After-amounts_of-amounts)
 
 pub bounds-inner-short : goal.bounds-inner-short
-bounds-inner-short c = omega (arith, spot-short c, c.loop-i.invariant.1.room.inner)
+bounds-inner-short c = omega (arith, spot-short (goal.at.bounds-inner-short c).After-amounts_of-amounts, c.loop-i.invariant.1.room.inner)
 
 pub offset_bounds-kept-short : goal.offset_bounds-kept-short
-offset_bounds-kept-short c = omega (arith, spot-short c)
+offset_bounds-kept-short c = omega (arith, spot-short (goal.at.offset_bounds-kept-short c).After-amounts_of-amounts)
 
 pub bounds-kept-short : goal.bounds-kept-short
-bounds-kept-short c = omega (arith, spot-short c, c.loop-i.invariant.1.room.kept)
+bounds-kept-short c = omega (arith, spot-short (goal.at.bounds-kept-short c).After-amounts_of-amounts, c.loop-i.invariant.1.room.kept)
 
 pub overflow_add-short : goal.overflow_add-short
 overflow_add-short c =
     let amounts = c.amounts_of-amounts.result in
     let one : c.falls_short-short.result ≤ 1 = rw c.falls_short-short.ensures (falls-one amounts.covered amounts.inner) in
-    omega (arith, spot-short c.before, one)
+    omega (arith, spot-short (goal.at.overflow_add-short c).After-amounts_of-amounts, one)
 
 pub overflow_add-count : goal.overflow_add-count
-overflow_add-count c = omega (arith, spot c.before)
+overflow_add-count c = omega (arith, spot (goal.at.overflow_add-count c).After-amounts_of-amounts)
 
 pub loop-i-smaller : goal.loop-i-smaller
 loop-i-smaller c = omega arith
@@ -92,20 +86,14 @@ loop-i-smaller c = omega arith
 pub loop-i-preserved : goal.loop-i-preserved
 unfolding amounts_of
 loop-i-preserved c =
-    let falls = c in
-    let amounts = falls in
-    let seen = amounts in
-    let l = seen in
-    let s = l in
-    let a = s.args in
+    let a = c.args in
     let x = samples a.setpoints.now a.actuals.now a.ogas.now a.ugas.now in
-    let v = l.loop-i in
-    let h = seen.loop-i-test.true in
-    let busy = sym amounts.idle.ensures ∙ amounts.if-idle.false in
-    rw (c.wrapping_add_u64-under_delivery.ensures, c.wrapping_add_u64-surplus.ensures, falls.falls_short-short.ensures, amounts.amounts_of-amounts.ensures) (
+    let v = c.loop-i in
+    let busy = sym c.idle.ensures ∙ c.if-idle.false in
+    rw (c.wrapping_add_u64-under_delivery.ensures.value, c.wrapping_add_u64-surplus.ensures.value, c.falls_short-short.ensures, c.amounts_of-amounts.ensures) (
       omega arith,
-      viewed-more a.direction x v.asked v.accepted v.required v.inner v.auto seen.faced-part.result v.count v.short v.surplus
-          v.under_delivery v.i h seen.faced-part.ensures v.invariant.1 s.requires.0.few busy,
+      viewed-more a.direction x v.asked v.accepted v.required v.inner v.kept c.faced-part.result v.count v.short v.surplus
+          v.under_delivery v.i c.loop-i-test.true c.faced-part.ensures v.invariant.1 c.requires.0.few busy,
     )
 
 pub shape_of-asked : goal.shape_of-asked

@@ -19,10 +19,6 @@ returns-then-identifier-gt16 c = sym (too_long_lem c.args.identifier.now c.if-id
 pub loop-i-init : goal.loop-i-init
 loop-i-init c = (omega arith, refl)
 
-shared-slice-read-is-identifier-byte :
-    goal.Need-shared-slice-read-is-identifier-byte invariant-loop decreases-loop
-shared-slice-read-is-identifier-byte c = omega arith
-
 pub returns-then-not-is_identifier_byte : goal.returns-then-not-is_identifier_byte
 returns-then-not-is_identifier_byte c =
     let at-loop-test = c in

@@ -5,7 +5,6 @@ use Rattle.fields.proofs.DigitLaws.{part-below}
 use lib.ListN.{drop}
 use mathlib.Core.Path.{refl, sym, ◌∙◌}
 use native.Mathlib.Omega.{arith}
-use Rattle.std.proofs.Common.{rules}
 use Rattle.fields.proofs.day.date_of.Goals as goal
 
 pub returns-then-field-ne10 : goal.returns-then-field-ne10

@@ -5,7 +5,6 @@ use Rattle.fields.specs.declared.number.LongNumber.TheVariants as Long
 use Rattle.fields.specs.declared.number.Digits.TheVariants.{Value}
 use Rattle.fields.specs.Numbers.{negative}
 use mathlib.Core.Path.{sym, ap, ◌∙◌}
-use Rattle.std.proofs.Common.{rules}
 use Rattle.fields.proofs.number.below_zero.Goals as goal
 
 pub returns-in_default : goal.returns-in_default
@@ -37,7 +36,7 @@ pub returns : goal.returns
 returns c =
     let at-unsigned = c in
     let at-start = at-unsigned in
-    ap Long.value-1 (less-is c.in-Value.value
+    ap Long.Value (less-is c.in-Value.value
     (unsigned-fits at-start.args.most
     at-start.args.bytes.now c.in-Value.value
     (sym at-unsigned.unsigned.ensures ∙ c.in-Value.is)))

@@ -1,12 +1,12 @@
 -- `fields::number::digits_of` meets its contract. The loop's invariant: `value` and the digits from `i` on say the same as all of them, and `value` has `i` digits.
 -- Assumes nothing.
 use Rattle.fields.proofs.DigitLaws.{low-at, high-at, more-at, ended_at, bounded, one_more}
-use Rattle.fields.specs.Numbers.{value_from, digits_of}
-use Prim.Native.Nat.{◌-◌, ◌^◌, ◌≤◌, ◌<◌}
-use mathlib.Core.Path.{◌≡◌, refl, sym, ◌∙◌}
+use Rattle.fields.specs.Numbers.{digits_of}
+use Prim.Native.Nat.{◌-◌}
+use mathlib.Core.Path.{refl, sym, ◌∙◌}
 use native.Mathlib.Omega.{arith}
 use native.Mathlib.Numerals.{add-one}
-use lib.ListN.{length, get_or, drop}
+use lib.ListN.{get_or}
 use Rattle.fields.proofs.number.digits_of.Goals as goal
 
 pub loop-i-init : goal.loop-i-init

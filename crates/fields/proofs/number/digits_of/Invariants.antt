@@ -1,10 +1,7 @@
-use Rattle.fields.proofs.DigitLaws.{low-at, high-at, more-at, ended_at, bounded, one_more}
 use Rattle.fields.specs.Numbers.{value_from, digits_of}
 use Prim.Native.Nat.{◌-◌, ◌^◌, ◌≤◌, ◌<◌}
-use mathlib.Core.Path.{◌≡◌, refl, sym, ◌∙◌}
-use native.Mathlib.Omega.{arith}
-use native.Mathlib.Numerals.{add-one}
-use lib.ListN.{length, get_or, drop}
+use mathlib.Core.Path.{◌≡◌}
+use lib.ListN.{length, drop}
 use Rattle.fields.proofs.number.digits_of.Given as goal
 
 abbrev pub invariant-loop-i : goal.invariant-loop-i

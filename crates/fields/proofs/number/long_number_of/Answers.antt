@@ -6,7 +6,6 @@ use Rattle.fields.specs.Numbers.{negative, unsigned_of}
 use Prim.Native.Nat.{ℕ}
 use mathlib.Core.List.{List}
 use mathlib.Core.Path.{sym, ap, ◌∙◌}
-use Rattle.std.proofs.Common.{rules}
 use Rattle.fields.proofs.number.long_number_of.Goals as goal
 
 pub returns-then-field-eq0 : goal.returns-then-field-eq0

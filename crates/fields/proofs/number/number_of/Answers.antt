@@ -7,7 +7,6 @@ use mir.Val.{SFits}
 use mir.Syntax.{w32, w64}
 use mathlib.Core.Path.{sym, ap, ◌∙◌}
 use native.Mathlib.Omega.{arith}
-use Rattle.std.proofs.Common.{rules}
 use Rattle.fields.proofs.number.number_of.Goals as goal
 
 pub returns-in_default : goal.returns-in_default

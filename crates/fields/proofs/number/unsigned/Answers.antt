@@ -2,7 +2,6 @@
 -- Assumes nothing.
 use Rattle.fields.specs.Numbers.{unsigned_of}
 use borrow.Author.Tests.{eq-eqb, ne_eqb, lt-ltb, le-ltb}
-use Rattle.std.proofs.Common.{rules}
 use Rattle.fields.proofs.number.unsigned.Goals as goal
 
 pub returns-then-bytes-eq0 : goal.returns-then-bytes-eq0

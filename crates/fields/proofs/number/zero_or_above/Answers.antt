@@ -6,7 +6,6 @@ use Rattle.fields.specs.Numbers.{plain}
 use mir.Facts.{to_z_pos}
 use mir.Syntax.{w64}
 use mathlib.Core.Path.{sym, ap, ◌∙◌}
-use Rattle.std.proofs.Common.{rules}
 use Rattle.fields.proofs.number.zero_or_above.Goals as goal
 
 pub returns-in_default : goal.returns-in_default
@@ -25,6 +24,6 @@ pub returns : goal.returns
 returns c =
     let at-unsigned = c in
     let at-start = at-unsigned in
-    ap Long.value-1 (to_z_pos w64 (unsigned-fits at-start.args.most
+    ap Long.Value (to_z_pos w64 (unsigned-fits at-start.args.most
     at-start.args.bytes.now c.in-Value.value (sym at-unsigned.unsigned.ensures ∙ c.in-Value.is)))
     ∙ ap plain (sym c.in-Value.is ∙ at-unsigned.unsigned.ensures)

@@ -4,7 +4,6 @@ use mathlib.Core.Path.{◌≡◌}
 use Prim.Native.Nat.{◌-◌}
 use native.Mathlib.Omega.{arith}
 use borrow.Author.Tests.{le-leb, lt-leb}
-use Rattle.std.proofs.Common.{rules}
 use Rattle.fields.proofs.split.bytes_at.Goals as goal
 
 pub returns-then-line-to : goal.returns-then-line-to

@@ -3,7 +3,6 @@ use Rattle.fields.specs.Split.{nowhere}
 use lib.ListN.{get_or-eq_default}
 use native.Mathlib.Omega.{arith}
 use mathlib.Core.Path.{sym}
-use Rattle.std.proofs.Common.{rules}
 use Rattle.fields.proofs.split.place_of.Goals as goal
 
 pub returns-then-k-ge-KEPT : goal.returns-then-k-ge-KEPT

@@ -1,9 +1,6 @@
-use Rattle.fields.proofs.SplitLaws.{Splitting, split-none, split-more, split-counted, split-all}
+use Rattle.fields.proofs.SplitLaws.{Splitting}
 use lib.ListN.{length}
 use Prim.Native.Nat.{suc, ◌-◌}
-use mathlib.Core.Logic.{⊎_elim}
-use native.Mathlib.Omega.{arith}
-use Rattle.std.proofs.Common.{rules}
 use Rattle.fields.proofs.split.split_of.Given as goal
 
 abbrev pub invariant-loop-from : goal.invariant-loop-from

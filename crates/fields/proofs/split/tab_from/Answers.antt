@@ -1,11 +1,9 @@
 -- `fields::split::tab_from` meets its contract. The loop's invariant: what stands before the next tab ends where that of the field does.
 -- Assumes nothing.
 use Rattle.fields.proofs.FieldLaws.{tab-here, tab-later, no-tab}
-use Rattle.fields.specs.Split.{until_tab}
-use Prim.Native.Nat.{◌+◌, ◌-◌, ◌≤◌}
-use mathlib.Core.Path.{◌≡◌, refl, ap}
+use mathlib.Core.Path.{refl, ap}
 use native.Mathlib.Omega.{arith}
-use lib.ListN.{length, drop}
+use lib.ListN.{length}
 use Rattle.fields.proofs.split.tab_from.Goals as goal
 
 pub loop-i-init : goal.loop-i-init

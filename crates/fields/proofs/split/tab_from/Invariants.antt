@@ -1,8 +1,6 @@
-use Rattle.fields.proofs.FieldLaws.{tab-here, tab-later, no-tab}
 use Rattle.fields.specs.Split.{until_tab}
 use Prim.Native.Nat.{◌+◌, ◌-◌, ◌≤◌}
-use mathlib.Core.Path.{◌≡◌, refl, ap}
-use native.Mathlib.Omega.{arith}
+use mathlib.Core.Path.{◌≡◌}
 use lib.ListN.{length, drop}
 use Rattle.fields.proofs.split.tab_from.Given as goal
 

@@ -15,9 +15,9 @@ use Rattle.judging.proofs.wanted.share_refusal.Goals as goal
 pub returns-then-not-well_formed : goal.returns-then-not-well_formed
 unfolding share_ground
 returns-then-not-well_formed c = record {
-      is = rw (sym c.well_formed-2.ensures ∙ c.if-not-well_formed.true);
-      few = λ z. absurd (omega (arith, z));
-    }
+  is = rw (sym c.well_formed-2.ensures ∙ c.if-not-well_formed.true);
+  few = λ z. absurd (omega (arith, z));
+}
 
 pub returns-then-not-is_wanted : goal.returns-then-not-is_wanted
 unfolding share_ground

@@ -1,6 +1,5 @@
 -- `lines::Gatherer::fresh` meets its contract. Assumes nothing.
 use Rattle.lines.specs.Gathering.{fresh_of}
-use Rattle.std.proofs.Common.{rules}
 use Rattle.lines.proofs.Gatherer.fresh.Goals as goal
 
 pub returns : goal.returns

@@ -1,13 +1,10 @@
 -- `lines::Gatherer::gather` meets its contract. The loop's invariant: what is gathered from the whole block is what is gathered from byte i on,
 -- by a gatherer that has the loop's bytes and length. The measure is what is left of the block. Assumes nothing.
-use Rattle.std.proofs.Common.{◌≡◌, ℕ, ◌-◌, ◌≤◌, List, length as size, drop, sym, ap, ◌∙◌, ⊎_elim, arith, length-set, rules}
-use Rattle.lines.specs.declared.Gatherer.{Gatherer}
-use Rattle.lines.specs.Gathering.{completed, further, gathered_of}
+use Rattle.std.proofs.Common.{length as size, sym, ap, ◌∙◌, arith, length-set, rules}
+use Rattle.lines.specs.Gathering.{completed}
 use Rattle.lines.proofs.Reading.{kept, overlong, at_once, line-ends, byte_more, block-ends}
+use Rattle.lines.proofs.Gatherer.gather.Goals.{then-length-lt-KEPT, else-length-lt-KEPT}
 use Rattle.lines.proofs.Gatherer.gather.Goals as goal
-
-abbrev at-hand : List ℕ → ℕ → ℕ → Gatherer
-at-hand bytes length count = record { bytes = bytes; length = length; count = count }
 
 pub loop-i-init : goal.loop-i-init
 loop-i-init c = (omega arith, search rules, at_once _)
@@ -20,7 +17,7 @@ overflow_add-result c = omega arith
 
 pub returns-then-byte-eq-LF : goal.returns-then-byte-eq-LF
 unfolding completed
-returns-then-byte-eq-LF c = rw c.wrapping_add_u64-count.ensures
+returns-then-byte-eq-LF c = rw c.wrapping_add_u64-count.ensures.value
     (sym
     (c.loop-i.invariant.2
     ∙ line-ends _ _ _ c.loop-i-test.true c.if-byte-eq-LF.true))
@@ -39,13 +36,23 @@ loop-i-smaller c = omega arith
 
 pub loop-i-preserved : goal.loop-i-preserved
 loop-i-preserved c =
-    let inv = c.loop-i.invariant in (
-      omega arith,
-      ⊎_elim (λ w. ap size w.1 ∙ simp length-set inv.1) (λ w. ap size w.1 ∙ inv.1) c.if-length-lt-KEPT.branch,
-      inv.2
-          ∙ byte_more _ _ _ c.loop-i-test.true c.if-byte-eq-LF.false _
-          (⊎_elim (λ w. rw (w.1, w.2) (kept _ _ w.0.taken)) (λ w. rw (w.1, w.2) (overlong _ _ w.0.left)) c.if-length-lt-KEPT.branch),
-    )
+    let inv = c.loop-i.invariant in
+    elim c.if-length-lt-KEPT.branch [
+      | then-length-lt-KEPT w ↦ (
+        omega arith,
+        ap size w.bytes-is ∙ simp length-set inv.1,
+        inv.2
+            ∙ byte_more _ _ _ c.loop-i-test.true c.if-byte-eq-LF.false _
+            (rw (w.bytes-is, w.length-is) (kept _ _ w.if-length-lt-KEPT.true)),
+      )
+      | else-length-lt-KEPT w ↦ (
+        omega arith,
+        ap size w.bytes-is ∙ inv.1,
+        inv.2
+            ∙ byte_more _ _ _ c.loop-i-test.true c.if-byte-eq-LF.false _
+            (rw (w.bytes-is, w.length-is) (overlong _ _ w.if-length-lt-KEPT.false)),
+      )
+    ]
 
 pub returns : goal.returns
 returns c = sym

@@ -1,8 +1,10 @@
-use Rattle.std.proofs.Common.{◌≡◌, ℕ, ◌-◌, ◌≤◌, List, length as size, drop, sym, ap, ◌∙◌, ⊎_elim, arith, length-set, rules}
+use Rattle.std.proofs.Common.{◌≡◌, ℕ, ◌-◌, ◌≤◌, List, length as size, drop}
 use Rattle.lines.specs.declared.Gatherer.{Gatherer}
-use Rattle.lines.specs.Gathering.{completed, further, gathered_of}
-use Rattle.lines.proofs.Reading.{kept, overlong, at_once, line-ends, byte_more, block-ends}
+use Rattle.lines.specs.Gathering.{further, gathered_of}
 use Rattle.lines.proofs.Gatherer.gather.Given as goal
+
+abbrev pub at-hand : List ℕ → ℕ → ℕ → Gatherer
+at-hand bytes length count = record { bytes = bytes; length = length; count = count }
 
 abbrev pub invariant-loop-i : goal.invariant-loop-i
 invariant-loop-i l =

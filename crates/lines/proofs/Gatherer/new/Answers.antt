@@ -1,6 +1,5 @@
 -- `lines::Gatherer::new` meets its contract. Assumes nothing.
 use Rattle.lines.specs.Gathering.{empty_gatherer}
-use Rattle.std.proofs.Common.{rules}
 use Rattle.lines.proofs.Gatherer.new.Goals as goal
 
 pub returns : goal.returns

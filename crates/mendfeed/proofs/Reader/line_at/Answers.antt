@@ -9,7 +9,7 @@ pub returns-then-not-part : goal.returns-then-not-part
 returns-then-not-part c =
     let at-gather = c in
     let entry = at-gather in
-    rest-of-block entry.args.self _ _ _ _ _ entry.requires at-gather.gather-part.ensures refl (omega arith) (omega arith) (c.if-not-part.true)
+    rest-of-block entry.args.self _ _ _ _ _ entry.requires at-gather.gather-part.ensures refl (omega arith) (omega arith) (not-true _ c.if-not-part.true)
 
 pub returns : goal.returns
 returns c =
@@ -17,4 +17,4 @@ returns c =
     let at-if = at-served in
     let at-gather = at-if in
     let entry = at-gather in
-    line-of-block entry.args.self _ _ _ _ _ entry.requires at-gather.gather-part.ensures (at-if.if-not-part.false) c.fresh.ensures at-served.served-answer.ensures
+    line-of-block entry.args.self _ _ _ _ _ entry.requires at-gather.gather-part.ensures (not-false _ at-if.if-not-part.false) c.fresh.ensures at-served.served-answer.ensures

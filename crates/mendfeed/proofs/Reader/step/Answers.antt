@@ -8,16 +8,16 @@ use Rattle.mendfeed.proofs.Reader.step.Goals as goal
 pub returns-then-not-at_start : goal.returns-then-not-at_start
 returns-then-not-at_start c =
     let entry = c in
-    line-steps entry.requires.1.1.0 entry.requires.1.1.1 c.line_at_lem.ensures
+    line-steps entry.requires.stage_value entry.requires.line_room_in_bounds c.line_at.ensures
 
 pub stretch_at-moved-requires : goal.stretch_at-moved-requires
 stretch_at-moved-requires c =
     let at-if = c in
     let at-starts = at-if in
     let entry = at-starts in record {
-      cut = entry.requires.0;
-      at_in_bounds = entry.requires.1.0;
-      from_in_bounds = omega (arith, entry.requires.1.1.1);
+      cut = entry.requires.cut;
+      at_in_bounds = entry.requires.at_in_bounds;
+      from_in_bounds = omega (arith, entry.requires.line_room_in_bounds);
       start = start_of at-starts.at_start.ensures (at-if.if-not-at_start.false);
     }
 
@@ -30,4 +30,4 @@ returns c =
     let at-if = at-line in
     let at-stretch = at-if in
     let entry = at-stretch in
-    line-steps-then entry.requires.1.1.0 entry.requires.1.1.1 (at-stretch.stretch_at-moved.ensures.none (omega (arith, at-if.if-moved-gt0.false))) at-line.line_at-2.ensures
+    line-steps-then entry.requires.stage_value entry.requires.line_room_in_bounds (at-stretch.stretch_at-moved.ensures.none (omega (arith, at-if.if-moved-gt0.false))) at-line.line_at-2.ensures

@@ -5,9 +5,9 @@ use Rattle.mendfeed.proofs.Reader.stretch_at.Goals as goal
 
 pub rows_at-done-requires : goal.rows_at-done-requires
 rows_at-done-requires c = let entry = c in record {
-      cut = entry.requires.0;
-      runnable = record { few = omega arith; within = omega (arith, entry.requires.1.0); room = entry.requires.1.1.0 };
-    }
+  cut = entry.requires.cut;
+  runnable = record { few = omega arith; within = omega (arith, entry.requires.at_in_bounds); room = entry.requires.from_in_bounds };
+}
 
 pub returns-then-done-eq0 : goal.returns-then-done-eq0
 returns-then-done-eq0 c =
@@ -24,4 +24,4 @@ returns c =
     let at_rows = at-if in
     let at_count = at_rows in
     let entry = at_count in
-    tried-some {reader = entry.args.self} at_rows.rows_at-done.ensures entry.requires.1.1.1 at_count.count.ensures at-if.if-done-eq0.false c.past.ensures
+    tried-some {reader = entry.args.self} at_rows.rows_at-done.ensures entry.requires.start at_count.count.ensures at-if.if-done-eq0.false c.past.ensures

@@ -11,7 +11,7 @@ told-second : (c : After-above_zero-at) → c.above_zero-at.result ≡ up c.args
 told-second c = rw (to_z-of_z c.ranges.second) at c.above_zero-at.ensures
 
 told-place : (c : After-place_of-place) → c.place_of-place.result ≡ up c.args.second / seconds_of c.args.grid
-told-place c = c.place_of-place.ensures ∙ ap (λ (n : ℕ). n / seconds_of c.args.grid) (told-second c.before)
+told-place c = c.place_of-place.ensures ∙ ap (λ (n : ℕ). n / seconds_of c.args.grid) (rw (to_z-of_z c.ranges.second) at c.above_zero-at.ensures)
 
 pub returns-then-second-lt0 : goal.returns-then-second-lt0
 returns-then-second-lt0 c = sym (below c.args.grid c.args.second (rw (to_z-of_z c.ranges.second) at c.if-second-lt0.true))
@@ -29,6 +29,6 @@ returns c =
     let at-if1 = at-if2 in
     let start = at-if1 in
     let t = start.args.grid in
-    ap not (λ k. eqb ((c.seconds_of.ensures ∙ ap (λ (p : ℕ). p * seconds_of t) (told-place at-if2.before)) k) (told-second at-if2.before k))
+    ap not (λ k. eqb ((c.seconds_of.ensures ∙ ap (λ (p : ℕ). p * seconds_of t) (told-place (goal.at.returns c).After-place_of-place)) k) (told-second (goal.at.returns c).After-above_zero-at k))
     ∙ sym (by-multiple t start.args.second (rw (to_z-of_z start.ranges.second) at at-if1.if-second-lt0.false)
-    (ap (leb t.places) (sym (told-place at-if2.before)) ∙ lt-leb _ _ at-if2.if-grid-place.false))
+    (ap (leb t.places) (sym (told-place (goal.at.returns c).After-place_of-place)) ∙ lt-leb _ _ at-if2.if-grid-place.false))

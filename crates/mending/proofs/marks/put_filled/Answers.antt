@@ -21,5 +21,5 @@ returns c =
     let at-put-sample = c in
     let at-put-mark = at-put-sample in
     let at-seconds-of = at-put-mark in
-    let f = fits-second (at-seconds-of) in
+    let f = fits-second (goal.at.returns c).After-seconds_of-second in
     both (rw (to_z-of_z f, at-seconds-of.seconds_of-second.ensures) at at-put-mark.put_mark-line.ensures) at-put-sample.put_sample.ensures

@@ -9,5 +9,5 @@ use Rattle.quarter.proofs.hour.samples_of.Goals as goal
 pub returns : goal.returns
 unfolding samples_of
 returns c =
-    let i = c.args.channel.interval-interval in
+    let i = c.args.channel.interval in
     rw (c.windows-windows.ensures, c.interval-interval.ensures) (refl, samples-few i)

@@ -39,7 +39,7 @@ pub returns-then-not-in_range-2 : goal.returns-then-not-in_range-2
 unfolding sample_refusal
 returns-then-not-in_range-2 c =
     let b = c in
-    let s = sym (setpoint-told b.before) ∙ b.if-not-in_range.false in
+    let s = sym (setpoint-told (goal.at.returns-then-not-in_range-2 c).After-in_range) ∙ b.if-not-in_range.false in
     let t = sym (actual-told (goal.at.returns-then-not-in_range-2 c).After-in_range-2) ∙ c.if-not-in_range-2.true in
     record { is = rw (lt-leb _ _ b.if-samples-filled.false, lt-leb _ _ b.if-quarters-taken.false, s, t); room = λ h. absurd (omega arith) }
 
@@ -47,6 +47,6 @@ pub returns : goal.returns
 unfolding sample_refusal
 returns c =
     let b = c in
-    let s = sym (setpoint-told b.before) ∙ b.if-not-in_range.false in
+    let s = sym (setpoint-told (goal.at.returns c).After-in_range) ∙ b.if-not-in_range.false in
     let t = sym (actual-told (goal.at.returns c).After-in_range-2) ∙ c.if-not-in_range-2.false in
     record { is = rw (lt-leb _ _ b.if-samples-filled.false, lt-leb _ _ b.if-quarters-taken.false, s, t); room = λ h. b.if-samples-filled.false }

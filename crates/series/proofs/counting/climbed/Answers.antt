@@ -1,6 +1,6 @@
 -- `series::counting::climbed` meets its contract. The loop stops at the first limit that the power does not pass.
 -- Assumes nothing.
-use Rattle.std.proofs.Common.{◌-◌, ◌≤◌, length, arith}
+use Rattle.std.proofs.Common.{arith}
 use lib.ListN.{get_or-eq_default}
 use Rattle.series.proofs.Lists.{get_d-other}
 use Rattle.series.proofs.counting.climbed.Goals as goal

@@ -1,6 +1,4 @@
-use Rattle.std.proofs.Common.{◌-◌, ◌≤◌, length, arith}
-use lib.ListN.{get_or-eq_default}
-use Rattle.series.proofs.Lists.{get_d-other}
+use Rattle.std.proofs.Common.{◌-◌, ◌≤◌, length}
 use Rattle.series.proofs.counting.climbed.Given as goal
 
 abbrev pub invariant-loop-place : goal.invariant-loop-place

@@ -1,25 +1,18 @@
 -- `series::counting::counted` meets its contract. The loop stores the sums of the slices so far (Cuts).
 -- Assumes nothing.
-use Rattle.std.proofs.Common.{◌-◌, length, arith, rules}
-use Rattle.series.proofs.Cuts.{Summing, Turn, summing-none, summing-turn, summing-all}
-use Rattle.series.proofs.counting.counted.Goals.{After-shared_slice_known-in-loop-k-1, Start}
+use Rattle.std.proofs.Common.{arith}
+use Rattle.series.proofs.Cuts.{Turn, summing-none, summing-turn, summing-all}
+use Rattle.series.proofs.counting.counted.Goals.{In-loop-k}
 use Rattle.series.proofs.counting.counted.Goals as goal
 
--- a place in the loop, where the function began and what was counted, seen from there
-abbrev Here : Type 0
-Here = After-shared_slice_known-in-loop-k-1 invariant-loop decreases-loop
-
-abbrev start : Here → Start invariant-loop decreases-loop
-start c = c
-
 -- what the turn of a slice asks and gives
-turn : (c : Here) → let t = c.tally in let l = c.loop-k in
-    Turn (start c).args.limits.now (start c).args.powers.now t.new.1.1.0 t.new.1.1.1.0 l.sums l.low l.higher l.k
+turn : (c : In-loop-k) → let t = c.tally in let l = c.loop-k in
+    Turn c.args.limits.now c.args.powers.now t.new.counts t.new.parts l.sums l.low l.higher l.k
 turn c =
     let t = c.tally in
     let l = c.loop-k in
-    summing-turn (start c).args.limits.now (start c).args.powers.now t.new.1.1.0 t.new.1.1.1.0
-    (record { orderly = (start c).requires.0; few = (start c).requires.1; counted = t.ensures }) l.sums l.low l.higher l.k l.invariant c.loop-k-test.true
+    summing-turn c.args.limits.now c.args.powers.now t.new.counts t.new.parts
+    (record { orderly = c.requires.0; few = c.requires.1; counted = t.ensures }) l.sums l.low l.higher l.k l.invariant c.loop-k-test.true
 
 pub tally-requires : goal.tally-requires
 tally-requires c =
@@ -28,7 +21,7 @@ tally-requires c =
 pub loop-k-init : goal.loop-k-init
 loop-k-init c =
     let s = c in
-    rw c.no_sums-sums.ensures (summing-none s.args.limits.now s.args.powers.now c.tally.new.1.1.0)
+    rw c.no_sums-sums.ensures (summing-none s.args.limits.now s.args.powers.now c.tally.new.counts)
 
 pub offset_bounds-limits-k : goal.offset_bounds-limits-k
 offset_bounds-limits-k c = omega arith
@@ -37,40 +30,40 @@ pub bounds-limits-k : goal.bounds-limits-k
 bounds-limits-k c = c.loop-k-test.true
 
 pub offset_bounds-counts-k : goal.offset_bounds-counts-k
-offset_bounds-counts-k c = record { fits = omega (arith, (turn c).within) }
+offset_bounds-counts-k c = record { fits = omega (arith, (turn (goal.at.offset_bounds-counts-k c).In-loop-k).within) }
 
 pub bounds-counts-k : goal.bounds-counts-k
-bounds-counts-k c = omega (arith, (turn c).within)
+bounds-counts-k c = omega (arith, (turn (goal.at.bounds-counts-k c).In-loop-k).within)
 
 pub overflow_sub-higher : goal.overflow_sub-higher
-overflow_sub-higher c = (turn c).left
+overflow_sub-higher c = (turn (goal.at.overflow_sub-higher c).In-loop-k).left
 
 pub offset_bounds-parts-k : goal.offset_bounds-parts-k
-offset_bounds-parts-k c = record { fits = omega (arith, (turn c).within) }
+offset_bounds-parts-k c = record { fits = omega (arith, (turn (goal.at.offset_bounds-parts-k c).In-loop-k).within) }
 
 pub bounds-parts-k : goal.bounds-parts-k
-bounds-parts-k c = omega (arith, (turn c).within)
+bounds-parts-k c = omega (arith, (turn (goal.at.bounds-parts-k c).In-loop-k).within)
 
 pub overflow_sub-high : goal.overflow_sub-high
-overflow_sub-high c = (turn c).rises
+overflow_sub-high c = (turn (goal.at.overflow_sub-high c).In-loop-k).rises
 
 pub overflow_mul-higher : goal.overflow_mul-higher
-overflow_mul-higher c = record { fits = (turn c).ranges }
+overflow_mul-higher c = record { fits = (turn (goal.at.overflow_mul-higher c).In-loop-k).fits }
 
 pub offset_bounds-sums-k : goal.offset_bounds-sums-k
-offset_bounds-sums-k c = record { fits = omega (arith, (turn c).within) }
+offset_bounds-sums-k c = record { fits = omega (arith, (turn (goal.at.offset_bounds-sums-k c).In-loop-k).within) }
 
 pub bounds-sums-k : goal.bounds-sums-k
-bounds-sums-k c = (turn c).within
+bounds-sums-k c = (turn (goal.at.bounds-sums-k c).In-loop-k).within
 
 pub overflow_add-k : goal.overflow_add-k
-overflow_add-k c = record { fits = omega (arith, (turn c).within) }
+overflow_add-k c = record { fits = omega (arith, (turn (goal.at.overflow_add-k c).In-loop-k).within) }
 
 pub loop-k-smaller : goal.loop-k-smaller
 loop-k-smaller c = omega (arith, c.loop-k-test.true)
 
 pub loop-k-preserved : goal.loop-k-preserved
-loop-k-preserved c = (turn c).again c.wrapping_add_u64.result c.wrapping_add_u64.ensures
+loop-k-preserved c = (turn (goal.at.loop-k-preserved c).In-loop-k).again c.wrapping_add_u64.result c.wrapping_add_u64.ensures.value
 
 pub offset_bounds-parts-k-2 : goal.offset_bounds-parts-k-2
 offset_bounds-parts-k-2 c =
@@ -87,6 +80,6 @@ returns c =
     let s = at-tally in
     let l = c.loop-k in
     let t = at-tally.tally in
-    summing-all s.args.limits.now s.args.powers.now t.new.1.1.0 t.new.1.1.1.0
+    summing-all s.args.limits.now s.args.powers.now t.new.counts t.new.parts
     (record { orderly = s.requires.0; few = s.requires.1; counted = t.ensures })
     l.sums l.low l.higher l.k l.invariant c.loop-k-test.false

@@ -1,5 +1,5 @@
-use Rattle.std.proofs.Common.{◌-◌, length, arith, rules}
-use Rattle.series.proofs.Cuts.{Summing, Turn, summing-none, summing-turn, summing-all}
+use Rattle.std.proofs.Common.{◌-◌, length}
+use Rattle.series.proofs.Cuts.{Summing}
 use Rattle.series.proofs.counting.counted.Given as goal
 
 abbrev pub invariant-loop-k : goal.invariant-loop-k

@@ -1,7 +1,6 @@
 -- `series::counting::descended` meets its contract. The loop keeps that the power does not pass the limit above.
 -- Assumes nothing.
-use Rattle.std.proofs.Common.{◌-◌, ◌≤◌, length, arith}
-use Rattle.series.specs.Counts.{high_at}
+use Rattle.std.proofs.Common.{◌-◌, arith}
 use Rattle.series.proofs.Lists.{get_d-other}
 use Rattle.series.proofs.Counts.{low-before, low_first}
 use Rattle.series.proofs.counting.descended.Goals as goal

@@ -1,7 +1,5 @@
-use Rattle.std.proofs.Common.{◌-◌, ◌≤◌, length, arith}
+use Rattle.std.proofs.Common.{◌≤◌, length}
 use Rattle.series.specs.Counts.{high_at}
-use Rattle.series.proofs.Lists.{get_d-other}
-use Rattle.series.proofs.Counts.{low-before, low_first}
 use Rattle.series.proofs.counting.descended.Given as goal
 
 abbrev pub invariant-loop-place : goal.invariant-loop-place

@@ -1,6 +1,5 @@
 -- `series::counting::first_run` meets its contract.
 -- Assumes nothing.
-use Rattle.std.proofs.Common.{rules}
 use Rattle.series.proofs.counting.first_run.Goals as goal
 
 pub returns : goal.returns

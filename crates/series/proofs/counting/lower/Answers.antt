@@ -1,7 +1,7 @@
 -- `series::counting::lower` meets its contract.
 -- Assumes nothing.
 use Rattle.series.proofs.Counts.{low-before}
-use Rattle.std.proofs.Common.{arith, rules}
+use Rattle.std.proofs.Common.{arith}
 use Rattle.series.proofs.counting.lower.Goals as goal
 
 pub returns : goal.returns

@@ -1,6 +1,5 @@
-use Rattle.std.proofs.Common.{◌+◌, ◌-◌, ◌<◌, ◌≤◌, length, refl, arith}
+use Rattle.std.proofs.Common.{◌-◌, ◌<◌, length}
 use Rattle.series.specs.Counts.{Ran}
-use Rattle.series.proofs.Runs.{ran_first, ran-lifted}
 use Rattle.series.proofs.counting.stretch.Given as goal
 
 abbrev pub invariant-loop-i : goal.invariant-loop-i

@@ -1,8 +1,5 @@
-use Rattle.std.proofs.Common.{◌≡◌, ℕ, ◌+◌, ◌-◌, ◌*◌, ◌^◌, ◌<◌, ◌≤◌, List, [], length, drop, arith, length-drop}
-use Rattle.series.proofs.Lists.{from_place}
-use Rattle.series.specs.Counts.{no_places, Stepped, Counted}
-use Rattle.series.proofs.Sums.{sum-at}
-use Rattle.series.proofs.Counts.{counted_none, counted-more}
+use Rattle.std.proofs.Common.{◌-◌, ◌≤◌, length}
+use Rattle.series.specs.Counts.{Counted}
 use Rattle.series.proofs.counting.tally.Given as goal
 
 abbrev pub invariant-loop-at : goal.invariant-loop-at

@@ -1,6 +1,6 @@
 -- `series::counting::upper` meets its contract.
 -- Assumes nothing.
-use Rattle.std.proofs.Common.{sym, arith, rules}
+use Rattle.std.proofs.Common.{sym, arith}
 use lib.ListN.{get_or-eq_default}
 use Rattle.series.proofs.Lists.{get_d-other}
 use Rattle.series.proofs.counting.upper.Goals as goal

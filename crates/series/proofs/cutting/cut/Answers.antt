@@ -1,6 +1,6 @@
 -- `series::cutting::cut` meets its contract.
 -- Assumes nothing.
-use Rattle.std.proofs.Common.{sym, arith, length-take-le, take_all, rules}
+use Rattle.std.proofs.Common.{sym, arith, length-take-le, take_all}
 use Rattle.series.proofs.cutting.cut.Goals as goal
 
 pub returns-then-count-gt32 : goal.returns-then-count-gt32

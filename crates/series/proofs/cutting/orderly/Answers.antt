@@ -1,7 +1,7 @@
 -- `series::cutting::orderly` meets its contract. The loop keeps that the limits so far rise (Cuts).
 -- Assumes nothing.
-use Rattle.std.proofs.Common.{◌≡◌, ℕ, ◌-◌, length, arith}
-use Rattle.series.proofs.Cuts.{Rose, rose-none, rose-more, rose-all}
+use Rattle.std.proofs.Common.{◌≡◌, ℕ, arith}
+use Rattle.series.proofs.Cuts.{rose-none, rose-more, rose-all}
 use Rattle.series.proofs.cutting.orderly.Goals as goal
 
 pub loop-k-init : goal.loop-k-init

@@ -1,5 +1,5 @@
-use Rattle.std.proofs.Common.{◌≡◌, ℕ, ◌-◌, length, arith}
-use Rattle.series.proofs.Cuts.{Rose, rose-none, rose-more, rose-all}
+use Rattle.std.proofs.Common.{◌-◌, length}
+use Rattle.series.proofs.Cuts.{Rose}
 use Rattle.series.proofs.cutting.orderly.Given as goal
 
 abbrev pub invariant-loop-k : goal.invariant-loop-k

@@ -1,6 +1,5 @@
 -- `series::cutting::pieces_of` meets its contract.
 -- Assumes nothing.
-use Rattle.std.proofs.Common.{rules}
 use Rattle.series.proofs.cutting.pieces_of.Goals as goal
 
 pub counted-requires : goal.counted-requires

@@ -1,7 +1,7 @@
 -- `series::cutting::plain` meets its contract. The loop stores the sums of the slices so far (Cuts).
 -- Assumes nothing.
-use Rattle.std.proofs.Common.{◌-◌, length, arith}
-use Rattle.series.proofs.Cuts.{Storing, storing-none, storing-more, storing-all, sliced-above}
+use Rattle.std.proofs.Common.{arith}
+use Rattle.series.proofs.Cuts.{storing-none, storing-more, storing-all, sliced-above}
 use Rattle.series.proofs.cutting.plain.Goals as goal
 
 pub loop-k-init : goal.loop-k-init

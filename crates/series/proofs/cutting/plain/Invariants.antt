@@ -1,5 +1,5 @@
-use Rattle.std.proofs.Common.{◌-◌, length, arith}
-use Rattle.series.proofs.Cuts.{Storing, storing-none, storing-more, storing-all, sliced-above}
+use Rattle.std.proofs.Common.{◌-◌, length}
+use Rattle.series.proofs.Cuts.{Storing}
 use Rattle.series.proofs.cutting.plain.Given as goal
 
 abbrev pub invariant-loop-k : goal.invariant-loop-k

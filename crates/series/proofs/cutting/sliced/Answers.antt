@@ -1,8 +1,8 @@
 -- `series::cutting::sliced` meets its contract. The loop adds modulo 2 ^ 64 what is left of the series.
 -- Assumes nothing.
-use Rattle.series.proofs.Sums.{Adding, adding-none, adding-more, adding-all, over-drop, over_none}
+use Rattle.series.proofs.Sums.{adding-none, adding-more, adding-all, over-drop, over_none}
 use Rattle.series.specs.Slices.{slice_of, sliced_of}
-use Rattle.std.proofs.Common.{◌-◌, length, get_or, drop, arith, rules}
+use Rattle.std.proofs.Common.{length, get_or, drop, arith}
 use Rattle.series.proofs.cutting.sliced.Goals as goal
 
 pub loop-i-init : goal.loop-i-init
@@ -26,7 +26,7 @@ loop-i-preserved c =
     let l = c.loop-i in
     let f = slice_of a.low.0 a.high.0 in
     adding-more (length a.powers.now) (λ k. sliced_of a.low.0 a.high.0 (drop k a.powers.now)) l.sum l.i (f (get_or a.powers.now l.i 0)) _
-    (omega arith) (over-drop f a.powers.now l.i (omega arith)) (rw (← c.slice.ensures) c.wrapping_add_u64-sum.ensures) l.invariant
+    (omega arith) (over-drop f a.powers.now l.i (omega arith)) (rw (← c.slice.ensures) c.wrapping_add_u64-sum.ensures.value) l.invariant
 
 pub returns : goal.returns
 returns c =

@@ -1,6 +1,6 @@
-use Rattle.series.proofs.Sums.{Adding, adding-none, adding-more, adding-all, over-drop, over_none}
-use Rattle.series.specs.Slices.{slice_of, sliced_of}
-use Rattle.std.proofs.Common.{◌-◌, length, get_or, drop, arith, rules}
+use Rattle.series.proofs.Sums.{Adding}
+use Rattle.series.specs.Slices.{sliced_of}
+use Rattle.std.proofs.Common.{◌-◌, length, drop}
 use Rattle.series.proofs.cutting.sliced.Given as goal
 
 abbrev pub invariant-loop-i : goal.invariant-loop-i

@@ -27,14 +27,14 @@ pub returns-then-not-within : goal.returns-then-not-within
 unfolding header_grounds
 returns-then-not-within c =
     let b = c in
-    rw (sym (interval-told b.before) ∙ b.if-not-seconds_known.false, sym (lot-told (goal.at.returns-then-not-within c).After-within) ∙ c.if-not-within.true)
+    rw (sym (interval-told (goal.at.returns-then-not-within c).After-seconds_known) ∙ b.if-not-seconds_known.false, sym (lot-told (goal.at.returns-then-not-within c).After-within) ∙ c.if-not-within.true)
 
 pub returns-then-not-is_real : goal.returns-then-not-is_real
 unfolding header_grounds
 returns-then-not-is_real c =
     let m = c in
     let b = m in
-    rw (sym (interval-told b.before) ∙ b.if-not-seconds_known.false, sym (lot-told m.before) ∙ m.if-not-within.false, sym c.is_real.ensures ∙ c.if-not-is_real.true)
+    rw (sym (interval-told (goal.at.returns-then-not-is_real c).After-seconds_known) ∙ b.if-not-seconds_known.false, sym (lot-told (goal.at.returns-then-not-is_real c).After-within) ∙ m.if-not-within.false, sym c.is_real.ensures ∙ c.if-not-is_real.true)
 
 quarters-told : (c : After-within-2) → c.within-2.result
     ≡ within_of (pos 1) c.args.header.quarters (pos 100)
@@ -49,8 +49,8 @@ returns-then-not-within-2 c =
     let m = d in
     let b = m in
     rw (
-      sym (interval-told b.before) ∙ b.if-not-seconds_known.false,
-      sym (lot-told m.before)
+      sym (interval-told (goal.at.returns-then-not-within-2 c).After-seconds_known) ∙ b.if-not-seconds_known.false,
+      sym (lot-told (goal.at.returns-then-not-within-2 c).After-within)
           ∙ m.if-not-within.false,
       sym d.is_real.ensures ∙ d.if-not-is_real.false,
       sym (quarters-told (goal.at.returns-then-not-within-2 c).After-within-2) ∙ c.if-not-within-2.true,
@@ -63,8 +63,8 @@ returns c =
     let m = d in
     let b = m in
     rw (
-      sym (interval-told b.before) ∙ b.if-not-seconds_known.false,
-      sym (lot-told m.before)
+      sym (interval-told (goal.at.returns c).After-seconds_known) ∙ b.if-not-seconds_known.false,
+      sym (lot-told (goal.at.returns c).After-within)
           ∙ m.if-not-within.false,
       sym d.is_real.ensures ∙ d.if-not-is_real.false,
       sym (quarters-told (goal.at.returns c).After-within-2) ∙ c.if-not-within-2.false,

@@ -8,18 +8,7 @@ use Rattle.judging.specs.Kept.{keeping}
 use Rattle.checking.specs.Checker.{standing}
 use Rattle.sharefeed.specs.Reader.{progress, feed_of}
 use Rattle.sharefeed.proofs.Stepping.{at-end, part-of-block}
-use Rattle.sharefeed.proofs.Reader.feed.Goals.{After-after-reader, After-gather-part, At-loop-i, Start}
 use Rattle.sharefeed.proofs.Reader.feed.Goals as goal
-
--- where the function began, the turn of the loop, and the part of the block that was gathered, seen from where the checker was told of it
-abbrev start : After-after-reader invariant-loop decreases-loop → Start invariant-loop decreases-loop
-start c = c
-
-abbrev turn : After-after-reader invariant-loop decreases-loop → At-loop-i invariant-loop decreases-loop
-turn c = c
-
-abbrev part : After-after-reader invariant-loop decreases-loop → After-gather-part invariant-loop decreases-loop
-part c = c
 
 pub loop-i-init : goal.loop-i-init
 loop-i-init c = (omega arith, refl, refl, refl, refl)
@@ -32,35 +21,30 @@ slice_bounds-gather-start c = search (rules, c.loop-i-test.true)
 
 pub overflow_add-i : goal.overflow_add-i
 overflow_add-i c =
-    let at_after = c in
-    let at-gather = part at_after in
-    let l = (turn at_after).loop-i in
+    let l = c.loop-i in
     let s = standing l.reader.checker (keeping l.gaps l.surpluses l.shares) in
     let step =
-    part-of-block l.reader.gatherer s (start at_after).args.block.now l.i at-gather.gather-part.result at-gather.loop-i-test.taken
-    at-gather.gather-part.ensures at_after.after-reader.ensures in
-    omega (arith, step.within, (start at_after).well_formed)
+    part-of-block l.reader.gatherer s c.args.block.now l.i c.gather-part.result c.loop-i-test.true
+    c.gather-part.ensures c.after-reader.ensures in
+    omega (arith, step.within, c.well_formed)
 
 pub loop-i-smaller : goal.loop-i-smaller
 loop-i-smaller c =
-    let at_after = c in
-    let at-gather = part at_after in
-    let l = (turn at_after).loop-i in
+    let l = c.loop-i in
     let s = standing l.reader.checker (keeping l.gaps l.surpluses l.shares) in
     let step =
-    part-of-block l.reader.gatherer s (start at_after).args.block.now l.i at-gather.gather-part.result at-gather.loop-i-test.taken
-    at-gather.gather-part.ensures at_after.after-reader.ensures in
+    part-of-block l.reader.gatherer s c.args.block.now l.i c.gather-part.result c.loop-i-test.true
+    c.gather-part.ensures c.after-reader.ensures in
     omega (arith, step.some, step.within)
 
 pub loop-i-preserved : goal.loop-i-preserved
 loop-i-preserved c =
-    let l = (turn c).loop-i in
+    let l = c.loop-i in
     let s = standing l.reader.checker (keeping l.gaps l.surpluses l.shares) in
     let step =
-    part-of-block l.reader.gatherer s (start c).args.block.now l.i
-    (part c).gather-part.result (part c).loop-i-test.taken
-    (part c).gather-part.ensures c.after-reader.ensures in
-    (omega (arith, step.within), l.inv.1 ∙ step.is, search (rules, l.inv.2), search (rules, l.inv.3), search (rules, l.inv.4))
+    part-of-block l.reader.gatherer s c.args.block.now l.i c.gather-part.result c.loop-i-test.true
+    c.gather-part.ensures c.after-reader.ensures in
+    (omega (arith, step.within), l.invariant.1 ∙ step.is, search (rules, l.invariant.2), search (rules, l.invariant.3), search (rules, l.invariant.4))
 
 pub shape_of-gaps : goal.shape_of-gaps
 shape_of-gaps c = c.loop-i.invariant.2

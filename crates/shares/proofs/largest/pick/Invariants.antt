@@ -10,7 +10,7 @@ use Rattle.shares.specs.Largest.{pick_of}
 use Rattle.shares.proofs.largest.pick.Given as goal
 
 abbrev pub invariant-loop-i : goal.invariant-loop-i
-invariant-loop-i l = (l.best ≡ pick_of l.fn.rems l.i) × ((l.best ≤ l.i) × (l.i ≤ 31))
+invariant-loop-i l = (l.best ≡ pick_of l.rests l.i) × ((l.best ≤ l.i) × (l.i ≤ 31))
 
 abbrev pub decreases-loop-i : goal.decreases-loop-i
 decreases-loop-i l = 31 - l.i

@@ -6,10 +6,10 @@ use Rattle.sheets.proofs.verdict.print_verdict.Goals as goal
 
 pub returns-then-buf-length : goal.returns-then-buf-length
 returns-then-buf-length c = let together = refused 128 c.put_verdict-length.ensures (omega arith) (omega arith) c.if-buf-length.true in record {
-      answer = together.0;
-      bytes = together.1.0;
-      room = together.1.1;
-    }
+  answer = together.0;
+  bytes = together.1.0;
+  room = together.1.1;
+}
 
 pub returns : goal.returns
 returns c =

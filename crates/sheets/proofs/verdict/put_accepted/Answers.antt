@@ -7,7 +7,4 @@ use Rattle.sheets.proofs.verdict.put_accepted.Goals as goal
 pub returns : goal.returns
 unfolding accepted_text
 returns c =
-    let at-put-line-end = c in
-    let at-put-field = at-put-line-end in
-    let at-put = at-put-field in
-    ended (further (begun at-put.put-count.ensures) (number at-put-field.put_field-end.ensures)) at-put-line-end.put_line_end.ensures
+    ended (further (begun c.put-count.ensures) (number (c.put_field-end.ensures.wrote, c.put_field-end.ensures.short))) c.put_line_end.ensures

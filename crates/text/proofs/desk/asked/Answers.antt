@@ -1,7 +1,6 @@
 -- `text::desk::asked` meets its contract: each line asks what the definition says. Assumes nothing.
 use Rattle.text.specs.Serving.{asked_of}
-use Rattle.std.proofs.Common.{to_z-of_z, w32, rules}
-use borrow.Author.Rules.{sfits_of}
+use Rattle.std.proofs.Common.{◌≡◌, to_z, of_z, w32, rules}
 use Rattle.text.proofs.desk.asked.Goals as goal
 
 pub returns-in-Header : goal.returns-in-Header
@@ -15,9 +14,9 @@ returns-in-Bounds c = rw c.in-Bounds.is c.bounds.ensures
 pub returns-in-Setpoint : goal.returns-in-Setpoint
 unfolding asked_of
 returns-in-Setpoint c =
-    let known = c in
-    let answer = rw (to_z-of_z {w = w32} (sfits_of known.known_told-in-Setpoint-1.given.0.1)) at c.setpoint.ensures in
-    rw known.in-Setpoint.is answer
+    let same : to_z w32 (of_z w32 c.in-Setpoint.setpoint) ≡ c.in-Setpoint.setpoint = search rules in
+    let answer = rw same at c.setpoint.ensures in
+    rw c.in-Setpoint.is answer
 
 pub returns-in-Contract : goal.returns-in-Contract
 unfolding asked_of

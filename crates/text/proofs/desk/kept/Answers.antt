@@ -8,7 +8,7 @@ pub returns-in-Length : goal.returns-in-Length
 returns-in-Length c =
     let e = c.in-Length.is in
     let told = c.args.told in
-    ap (told_by told.desk) e ∙ sym (ap (answer_of c.args told.desk) e)
+    ap (told_by told.desk) e ∙ sym (ap (answer_of c.args.before told.desk) e)
 
 pub returns-in-TooShort : goal.returns-in-TooShort
 returns-in-TooShort c = rw c.in-TooShort.is

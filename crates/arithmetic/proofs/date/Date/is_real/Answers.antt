@@ -1,6 +1,5 @@
 -- `arithmetic::date::Date::is_real` meets its contract.
 -- Assumes nothing.
-use Rattle.std.proofs.Common.{rules}
 use borrow.Author.Tests.{le-leb, lt-leb}
 use Rattle.arithmetic.specs.Date.{real_day}
 use Rattle.arithmetic.proofs.date.Date.is_real.Goals as goal

@@ -16,7 +16,7 @@ returns-in-Refused c =
     let a = start.args in
     let s = standing a.self (keeping a.gaps.now a.surpluses.now a.shares.now) in
     rw (
-      ← at-wrapping-add-u64.wrapping_add_u64-number.ensures,
+      ← at-wrapping-add-u64.wrapping_add_u64-number.ensures.value,
       finish-parts a.self.stage s
           at-wrapping-add-u64.wrapping_add_u64-number.result,
       ← at-end-at.end_at-end.ensures,
@@ -34,7 +34,7 @@ returns-in-Ruled c =
     let a = start.args in
     let s = standing a.self (keeping a.gaps.now a.surpluses.now a.shares.now) in
     rw (
-      ← at-wrapping-add-u64.wrapping_add_u64-number.ensures,
+      ← at-wrapping-add-u64.wrapping_add_u64-number.ensures.value,
       finish-parts a.self.stage s
           at-wrapping-add-u64.wrapping_add_u64-number.result,
       ← at-end-at.end_at-end.ensures,

@@ -7,4 +7,4 @@ use Rattle.checking.proofs.checker.Checker.new.Goals as goal
 
 pub returns : goal.returns
 unfolding empty_checker
-returns c = c.at.ensures ∙ ap (λ (o : Opened). checker_at Empty o.run) c.«open».ensures
+returns c = c.at.ensures ∙ ap (λ (o : Opened). checker_at Empty o.run) c.open-opened.ensures

@@ -11,10 +11,10 @@ unfolding opened_by
 returns-then-number-ne0 c =
     let at-number = c in
     let at_open = at-number in
-    c.stopped.ensures ∙ refuses at-number.number.ensures (ap (λ (o : Opened). o.refusal) at_open.«open».ensures) _ _ _ c.if-number-ne0.true
+    c.stopped.ensures ∙ refuses at-number.number.ensures (ap (λ (o : Opened). o.refusal) at_open.open-opened.ensures) _ _ _ c.if-number-ne0.true
 
 pub returns : goal.returns
 unfolding opened_by
 returns c =
-    c.at.ensures ∙ ap (λ (o : Opened). checker_at Open o.run) c.«open».ensures
-    ∙ goes_on_lem c.number.ensures (ap (λ (o : Opened). o.refusal) c.«open».ensures) _ _ _ c.if-number-ne0.false
+    c.at.ensures ∙ ap (λ (o : Opened). checker_at Open o.run) c.open-opened.ensures
+    ∙ goes_on_lem c.number.ensures (ap (λ (o : Opened). o.refusal) c.open-opened.ensures) _ _ _ c.if-number-ne0.false

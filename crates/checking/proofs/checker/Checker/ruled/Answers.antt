@@ -18,7 +18,7 @@ returns-then-wanted-given c =
     let start = at-books in
     let a = start.args in
     let p = at-print-refusal.print_refusal.ensures in
-    let same : at-wanted.wanted.result ≡ wanted_in a.run.books-books (ended_of a.run).quarters = at-wanted.wanted.ensures ∙ rw (at-books.books-books.ensures, at-quarters-of.quarters_of-quarters.ensures) in
+    let same : at-wanted.wanted.result ≡ wanted_in a.run.books (ended_of a.run).quarters = at-wanted.wanted.ensures ∙ rw (at-books.books-books.ensures, at-quarters-of.quarters_of-quarters.ensures) in
     rw (← same, ne_eqb _ _ at-if1.if-wanted-given.true) (record { answer = p.answer; bytes = p.bytes; room = p.room })
 
 pub returns : goal.returns
@@ -33,7 +33,7 @@ returns c =
     let start = at-books in
     let a = start.args in
     let p = at-print-verdict.print_verdict.ensures in
-    let same : at-wanted.wanted.result ≡ wanted_in a.run.books-books (ended_of a.run).quarters = at-wanted.wanted.ensures ∙ rw (at-books.books-books.ensures, at-quarters-of.quarters_of-quarters.ensures) in
-    let verdict : at-judged.judged.result ≡ judged_of a.run.books-books (keeping a.gaps.now a.surpluses.now a.shares.now) (ended_of a.run).quarters =
+    let same : at-wanted.wanted.result ≡ wanted_in a.run.books (ended_of a.run).quarters = at-wanted.wanted.ensures ∙ rw (at-books.books-books.ensures, at-quarters-of.quarters_of-quarters.ensures) in
+    let verdict : at-judged.judged.result ≡ judged_of a.run.books (keeping a.gaps.now a.surpluses.now a.shares.now) (ended_of a.run).quarters =
     at-judged.judged.ensures ∙ rw (at-books.books-books.ensures, at-quarters-of.quarters_of-quarters.ensures) in
     rw (← same, eq-eqb _ _ at-if1.if-wanted-given.false, ← verdict) (record { answer = p.answer; bytes = p.bytes; room = p.room })

@@ -5,7 +5,6 @@ use mathlib.Core.Path.{ap}
 use Rattle.fields.proofs.SplitLaws.{field-held}
 use mathlib.Core.Path.{◌≡◌, ◌∙◌}
 use Rattle.fields.specs.Split.{held_at}
-use Rattle.std.proofs.Common.{rules}
 use Rattle.fields.proofs.split.Split.field.Goals as goal
 
 pub returns : goal.returns

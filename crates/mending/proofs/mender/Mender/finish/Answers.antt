@@ -18,6 +18,6 @@ returns c =
     let at-if1 = at-wrapping-add-u64 in
     let at-is-closed = at-if1 in
     let start = at-is-closed in
-    as-turn (ap (λ (k : ℕ). refused_turn start.args.self k NoEnd) at-wrapping-add-u64.wrapping_add_u64-number.ensures ∙ sym
+    as-turn (ap (λ (k : ℕ). refused_turn start.args.self k NoEnd) at-wrapping-add-u64.wrapping_add_u64-number.ensures.value ∙ sym
     (finish-open start.args.self start.args.count (sym at-is-closed.is_closed.ensures ∙ at-if1.if-is_closed.false)))
     at-refused.refused.ensures

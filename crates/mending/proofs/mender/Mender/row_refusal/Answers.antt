@@ -49,12 +49,12 @@ returns-then-is_earlier c =
     let at-if2 = at-sorted-refusal in
     let at-if1 = at-if2 in
     rw (
-      sym (told-setpoint at-if1.before) ∙ at-if1.if-not-in_range.false,
-      sym (told-actual at-if2.before) ∙ at-if2.if-not-in_range-2.false,
+      sym (told-setpoint (goal.at.returns-then-is_earlier c).After-in_range) ∙ at-if1.if-not-in_range.false,
+      sym (told-actual (goal.at.returns-then-is_earlier c).After-in_range-2) ∙ at-if2.if-not-in_range-2.false,
       ← at-sorted-refusal.sorted_refusal-refusal.ensures,
       ← at-number.number.ensures,
       eq-eqb _ _ at-if3.if-number-ne0.false,
-      sym (told-earlier c.before) ∙ c.if-is_earlier.true,
+      sym (told-earlier (goal.at.returns-then-is_earlier c).After-is_earlier) ∙ c.if-is_earlier.true,
     )
 
 pub returns : goal.returns
@@ -66,10 +66,10 @@ returns c =
     let at-if2 = at-sorted-refusal in
     let at-if1 = at-if2 in
     rw (
-      sym (told-setpoint at-if1.before) ∙ at-if1.if-not-in_range.false,
-      sym (told-actual at-if2.before) ∙ at-if2.if-not-in_range-2.false,
+      sym (told-setpoint (goal.at.returns c).After-in_range) ∙ at-if1.if-not-in_range.false,
+      sym (told-actual (goal.at.returns c).After-in_range-2) ∙ at-if2.if-not-in_range-2.false,
       ← at-sorted-refusal.sorted_refusal-refusal.ensures,
       ← at-number.number.ensures,
       eq-eqb _ _ at-if3.if-number-ne0.false,
-      sym (told-earlier c.before) ∙ c.if-is_earlier.false,
+      sym (told-earlier (goal.at.returns c).After-is_earlier) ∙ c.if-is_earlier.false,
     )

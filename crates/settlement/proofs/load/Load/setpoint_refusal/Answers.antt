@@ -12,20 +12,20 @@ use Rattle.settlement.proofs.load.Load.setpoint_refusal.Goals as goal
 
 pub returns-then-not-untouched : goal.returns-then-not-untouched
 unfolding setpoint_refusal
-returns-then-not-untouched c = rw (not-true c.args.untouched c.if-not-untouched.true)
+returns-then-not-untouched c = rw (c.if-not-untouched.true)
 
 pub returns-then-not-self : goal.returns-then-not-self
 unfolding setpoint_refusal
 returns-then-not-self c =
     let a = c.args in
-    rw (not-false a.untouched c.if-not-untouched.false, not-true a.self.begun c.if-not-self.true)
+    rw (c.if-not-untouched.false, c.if-not-self.true)
 
 pub returns-then-self-eq0 : goal.returns-then-self-eq0
 unfolding setpoint_refusal
 returns-then-self-eq0 c =
     let b = c in
     let a = b.args in
-    rw (not-false a.untouched b.if-not-untouched.false, not-false a.self.begun b.if-not-self.false, eq-eqb _ _ c.if-self-eq0.true)
+    rw (b.if-not-untouched.false, b.if-not-self.false, eq-eqb _ _ c.if-self-eq0.true)
 
 -- what each test of the setpoint says of the definition's
 range-told : (c : After-in_range) → c.in_range.result ≡ power_in_range c.args.setpoint
@@ -40,7 +40,7 @@ returns-then-not-in_range c =
     let b = l in
     let p = sym (range-told (goal.at.returns-then-not-in_range c).After-in_range) ∙ c.if-not-in_range.true in
     let a = b.args in
-    rw (not-false a.untouched b.if-not-untouched.false, not-false a.self.begun b.if-not-self.false, ne_eqb _ _ l.if-self-eq0.false, p)
+    rw (b.if-not-untouched.false, b.if-not-self.false, ne_eqb _ _ l.if-self-eq0.false, p)
 
 pub returns-then-self-ne1 : goal.returns-then-self-ne1
 unfolding setpoint_refusal
@@ -48,9 +48,9 @@ returns-then-self-ne1 c =
     let r = c in
     let l = r in
     let b = l in
-    let p = sym (range-told r.before) ∙ r.if-not-in_range.false in
+    let p = sym (range-told (goal.at.returns-then-self-ne1 c).After-in_range) ∙ r.if-not-in_range.false in
     let a = b.args in
-    rw (not-false a.untouched b.if-not-untouched.false, not-false a.self.begun b.if-not-self.false, ne_eqb _ _ l.if-self-eq0.false, p, ne_eqb _ _ c.if-self-ne1.true)
+    rw (b.if-not-untouched.false, b.if-not-self.false, ne_eqb _ _ l.if-self-eq0.false, p, ne_eqb _ _ c.if-self-ne1.true)
 
 between-told : (c : After-lies_between) → let a = c.args in
     c.lies_between.result ≡ between a.self.bounds a.setpoint
@@ -65,10 +65,10 @@ returns-then-not-lies_between c =
     let r = n in
     let l = r in
     let b = l in
-    let p = sym (range-told r.before) ∙ r.if-not-in_range.false in
+    let p = sym (range-told (goal.at.returns-then-not-lies_between c).After-in_range) ∙ r.if-not-in_range.false in
     let q = sym (between-told (goal.at.returns-then-not-lies_between c).After-lies_between) ∙ c.if-not-lies_between.true in
     let a = b.args in
-    rw (not-false a.untouched b.if-not-untouched.false, not-false a.self.begun b.if-not-self.false, ne_eqb _ _ l.if-self-eq0.false, p, eq-eqb _ _ n.if-self-ne1.false, q)
+    rw (b.if-not-untouched.false, b.if-not-self.false, ne_eqb _ _ l.if-self-eq0.false, p, eq-eqb _ _ n.if-self-ne1.false, q)
 
 pub returns : goal.returns
 unfolding setpoint_refusal
@@ -77,7 +77,7 @@ returns c =
     let r = n in
     let l = r in
     let b = l in
-    let p = sym (range-told r.before) ∙ r.if-not-in_range.false in
+    let p = sym (range-told (goal.at.returns c).After-in_range) ∙ r.if-not-in_range.false in
     let q = sym (between-told (goal.at.returns c).After-lies_between) ∙ c.if-not-lies_between.false in
     let a = b.args in
-    rw (not-false a.untouched b.if-not-untouched.false, not-false a.self.begun b.if-not-self.false, ne_eqb _ _ l.if-self-eq0.false, p, eq-eqb _ _ n.if-self-ne1.false, q)
+    rw (b.if-not-untouched.false, b.if-not-self.false, ne_eqb _ _ l.if-self-eq0.false, p, eq-eqb _ _ n.if-self-ne1.false, q)

@@ -9,4 +9,4 @@ returns-then-is_closed c = as-turn (sym (finish-closed _ (sym c.is_closed.ensure
 pub returns : goal.returns
 returns c =
     as-turn (finish-open _ _ (sym c.is_closed.ensures ∙ c.if-is_closed.false))
-    (rw (← c.wrapping_add_u64-number.ensures) (tells c.refused.ensures c.kept.ensures))
+    (rw (← c.wrapping_add_u64-number.ensures.value) (tells c.refused.ensures c.kept.ensures))

@@ -5,4 +5,4 @@ use Rattle.text.proofs.desk.Desk.new.Goals as goal
 
 pub returns : goal.returns
 unfolding empty_desk
-returns c = rw c.«open».ensures
+returns c = rw c.open-opened.ensures

@@ -10,12 +10,12 @@ unfolding open_turn
 returns-then-number-ne0 c =
     let at-if1 = c in
     let at_call = at-if1 in
-    as-turned (refuses _ _ _ at-if1.number.ensures (ap (λ (o : Opened). o.refusal) at_call.«open».ensures) at-if1.if-number-ne0.true) c.refused.ensures
+    as-turned (refuses _ _ _ at-if1.number.ensures (ap (λ (o : Opened). o.refusal) at_call.open-opened.ensures) at-if1.if-number-ne0.true) c.refused.ensures
 
 pub returns : goal.returns
 unfolding open_turn
 returns c =
     let at-if1 = c in
     let at_call = at-if1 in
-    as-turned (goes_on_lem _ _ _ at-if1.number.ensures (ap (λ (o : Opened). o.refusal) at_call.«open».ensures) at-if1.if-number-ne0.false)
-    (rw (← at_call.«open».ensures) c.begun.ensures)
+    as-turned (goes_on_lem _ _ _ at-if1.number.ensures (ap (λ (o : Opened). o.refusal) at_call.open-opened.ensures) at-if1.if-number-ne0.false)
+    (rw (← at_call.open-opened.ensures) c.begun.ensures)

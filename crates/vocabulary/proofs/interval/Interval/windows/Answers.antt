@@ -1,6 +1,5 @@
 -- `vocabulary::interval::Interval::windows` meets its contract: an arm for each case of the definition.
 -- Assumes nothing.
-use Rattle.std.proofs.Common.{rules}
 use Rattle.vocabulary.proofs.interval.Interval.windows.Goals as goal
 
 pub returns-in-One : goal.returns-in-One

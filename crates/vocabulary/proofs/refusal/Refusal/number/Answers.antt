@@ -2,7 +2,6 @@
 -- Assumes nothing.
 use mathlib.Core.Path.{sym, ap}
 use Rattle.vocabulary.specs.Refusals.{number_of}
-use Rattle.std.proofs.Common.{rules}
 use Rattle.vocabulary.proofs.refusal.Refusal.number.Goals as goal
 
 pub returns-in-None : goal.returns-in-None

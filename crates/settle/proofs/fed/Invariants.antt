@@ -1,0 +1,17 @@
+use Rattle.feed.proofs.UsedLaws.{at-closed, at-block-end, called}
+use Rattle.feed.specs.declared.Reader.{Reader}
+use Rattle.feed.specs.Feeding.{Through}
+use Rattle.sheets.specs.Buffer.{buffer_length}
+use Rattle.std.proofs.Common.{rules}
+use lib.ListN.{length, drop}
+use native.Mathlib.Omega.{arith}
+use mathlib.Core.Path.{◌≡◌, refl, sym, ◌∙◌}
+use Prim.Native.Nat.{ℕ, ◌-◌, ◌≤◌}
+use Rattle.settle.proofs.fed.Given as goal
+
+abbrev pub invariant-loop-i : goal.invariant-loop-i
+invariant-loop-i g l =
+    (l.i ≤ length l.block) × (buffer_length ≤ length l.initial.out) × (length l.out ≡ length l.initial.out) × ((last : Reader) → Through l.now (drop l.i l.block) last → Through l.initial.now l.block last)
+
+abbrev pub decreases-loop-i : goal.decreases-loop-i
+decreases-loop-i g l = length l.block - l.i

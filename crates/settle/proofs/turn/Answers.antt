@@ -1,0 +1,48 @@
+-- `settle::turn` meets its contract: what is fed and what is left make what was at hand.
+-- Assumes nothing.
+use Rattle.feed.specs.Feeding.{Through}
+use lib.ListN.{length, take, drop}
+use mathlib.Core.Path.{subst, ap, ◌∙◌}
+use mathlib.Core.List.{List}
+use Prim.Native.Nat.{ℕ, ◌-◌, ◌≤◌, ◌<◌}
+use lib.Seq.{length-take-le}
+use mathlib.Core.Path.{◌≡◌, sym}
+use native.Mathlib.Omega.{arith}
+use Rattle.std.proofs.Common.{rules}
+use Rattle.settle.proofs.turn.Goals as goal
+
+-- what is within the bytes at hand is within the block
+few : (all n : ℕ) (block : List ℕ) → all ≤ length block → n ≤ length (take all block) → (n ≤ all) × (n ≤ length block)
+few all n block h l = let e : length (take all block) ≡ all = length-take-le all block h in (omega arith, omega arith)
+
+pub slice_bounds-fed_length-end-2 : goal.slice_bounds-fed_length-end-2
+slice_bounds-fed_length-end-2 g c = sym (length-take-le _ _ c.requires.all_in_bounds)
+
+pub slice_bounds-fed-end : goal.slice_bounds-fed-end
+slice_bounds-fed-end g c = (few _ _ _ c.requires.all_in_bounds c.fed_length-end.ensures.0).1
+
+pub slice_bounds-fed-end-2 : goal.slice_bounds-fed-end-2
+slice_bounds-fed-end-2 g c = sym (length-take-le _ _ (few _ _ _ c.requires.all_in_bounds c.fed_length-end.ensures.0).1)
+
+pub left_over-requires : goal.left_over-requires
+left_over-requires g c =
+    let at-fed-length = c in
+    let start = at-fed-length in
+    ((few _ _ _ start.requires.all_in_bounds at-fed-length.fed_length-end.ensures.0).0, start.requires.all_in_bounds)
+
+pub returns : goal.returns
+returns g c =
+    let at-left-over = c in
+    let at-fed = at-left-over in
+    let at-fed-length = at-fed in
+    let start = at-fed-length in
+    let block = start.args.block.now in
+    let left = at-left-over.left_over.result in
+    let over = at-left-over.left_over.ensures in
+    let in_all = few _ _ _ start.requires.all_in_bounds at-fed-length.fed_length-end.ensures.0 in
+    let whole = length-take-le start.args.all block start.requires.all_in_bounds in
+    let end_is : at-fed-length.fed_length-end.result ≡ start.args.all - left = omega (arith, in_all.0, over.0) in record {
+      fed = λ e. subst (λ (n : ℕ). Through start.args.reader (take n block) at-fed.fed-passed.result.reader) end_is (at-fed.fed-passed.ensures e);
+      kept = over.1 ∙ ap (λ (n : ℕ). take left (drop n block)) end_is;
+      fewer = (omega (arith, over.0), λ h. omega (arith, over.0, in_all.0, at-fed-length.fed_length-end.ensures.1 (omega (arith, whole))));
+    }
