@@ -27,7 +27,7 @@ def settle():
     if os.uname().machine != "x86_64":
         sys.exit("the settling program is made for x86-64: under an emulator a time says nothing")
     subprocess.run(["./fireboxer", "settle", "examples/example.txt"], cwd=ROOT, check=True, stdout=subprocess.DEVNULL)
-    return "target/bin/settle"
+    return "crates/settle/out/settle"
 
 
 def generate(*words):

@@ -113,7 +113,14 @@ fn repeated(rt: &impl Print, run: Run, at: u64, line: &[u8]) -> Run {
     last.run
 }
 
-fn show_total(rt: &impl Print, at: u64, refusal: Refusal, quarters: u8, fees: Cents, penalties: Cents) {
+fn show_total(
+    rt: &impl Print,
+    at: u64,
+    refusal: Refusal,
+    quarters: u8,
+    fees: Cents,
+    penalties: Cents,
+) {
     answer::answered(rt, at, refusal);
     let mut out = answer::dotted();
     let printed = print_total(&mut out, quarters, fees, penalties);

@@ -94,12 +94,7 @@ fn read_once(input: &mut impl Read, block: &mut [u8]) -> usize
 }
 
 // Reads once, and mends what came, or the recording's end.
-fn turn(
-    rt: &(impl Print + Eprint),
-    input: &mut impl Read,
-    reader: Reader,
-    out: &mut [u8],
-) -> Passed
+fn turn(rt: &(impl Print + Eprint), input: &mut impl Read, reader: Reader, out: &mut [u8]) -> Passed
     requires { line_room ≤ length out.old }
 {
     let mut block = no_block();

@@ -38,5 +38,4 @@ loop-turns-smaller c = omega arith
 
 pub loop-turns-preserved : goal.loop-turns-preserved
 loop-turns-preserved c =
-    let at-loop = c in
-    (search (rules, at-loop.loop-turns.invariant.0), search (rules, at-loop.loop-turns.invariant.1), search (rules, at-loop.loop-turns.invariant.2))
+    (search (rules, c.loop-turns.invariant.0), search (rules, c.loop-turns.invariant.1), search (rules, c.loop-turns.invariant.2))

@@ -22,15 +22,13 @@ loop-second-init c = (search rules, c.new-channel.ensures.series)
 pub loop-second-preserved : goal.loop-second-preserved
 unfolding jump
 loop-second-preserved c =
-    let a = c in
     let l = c.loop-second in
     let s = c.setpoint_at in
-    let kw = to_z w32 (of_z w32 a.args.kw) in
+    let kw = to_z w32 (of_z w32 c.args.kw) in
     (search rules, rw (add-one l.second) (rw (back32 {z = s.result} s.type_inv, s.ensures) at (c.follow-channel.ensures.series One 5000 fresh (jump kw l.second) l.invariant.1)))
 
 pub returns : goal.returns
 returns c =
     let l = c.loop-second in
     let e : l.second ≡ c.args.samples = omega arith in
-    let a = c in
-    rw (c.uga.ensures, ← e) (rw (to_z-of_z w32 a.args.kw a.ranges.kw) at l.invariant.1.uga)
+    rw (c.uga.ensures, ← e) (rw (to_z-of_z w32 c.args.kw c.ranges.kw) at l.invariant.1.uga)

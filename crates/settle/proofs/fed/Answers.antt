@@ -30,83 +30,61 @@ slice_bounds-feed-end g c = omega arith
 
 pub overflow_add-i : goal.overflow_add-i
 overflow_add-i g c =
-    let at-feed = c in
-    let at-loop-test = at-feed in
-    let at-loop = at-loop-test in
-    let at-start = at-loop in
-    let inv = at-loop.loop-i.invariant in
-    let enough : buffer_length ≤ length at-loop.loop-i.out = omega (arith, inv.1, inv.2) in
+    let inv = c.loop-i.invariant in
+    let enough : buffer_length ≤ length c.loop-i.out = omega (arith, inv.1, inv.2) in
     omega (
       arith,
-      (called {block = at-start.args.block.now}
-          {i = at-loop.loop-i.i} enough
-          at-loop-test.loop-i-test.true
-          at-feed.feed-part.ensures).within,
-      at-start.well_formed,
+      (called {block = c.args.block.now}
+          {i = c.loop-i.i} enough
+          c.loop-i-test.true
+          c.feed-part.ensures).within,
+      c.well_formed,
     )
 
 pub written-requires : goal.written-requires
 written-requires g c =
-    let at-feed = c in
-    let at-loop-test = at-feed in
-    let at-loop = at-loop-test in
-    let at-start = at-loop in
-    let inv = at-loop.loop-i.invariant in
-    let enough : buffer_length ≤ length at-loop.loop-i.out = omega (arith, inv.1, inv.2) in
-    (called {block = at-start.args.block.now}
-    {i = at-loop.loop-i.i} enough
-    at-loop-test.loop-i-test.true at-feed.feed-part.ensures).room
+    let inv = c.loop-i.invariant in
+    let enough : buffer_length ≤ length c.loop-i.out = omega (arith, inv.1, inv.2) in
+    (called {block = c.args.block.now}
+    {i = c.loop-i.i} enough
+    c.loop-i-test.true c.feed-part.ensures).room
 
 pub shape_of-out-then-not-written : goal.shape_of-out-then-not-written
 shape_of-out-then-not-written g c =
-    let at-feed = c in
-    let at-loop-test = at-feed in
-    let at-loop = at-loop-test in
-    let at-start = at-loop in
-    let inv = at-loop.loop-i.invariant in
-    let enough : buffer_length ≤ length at-loop.loop-i.out = omega (arith, inv.1, inv.2) in
-    (called {block = at-start.args.block.now}
-    {i = at-loop.loop-i.i} enough
-    at-loop-test.loop-i-test.true
-    at-feed.feed-part.ensures).length-is ∙ inv.2
+    let inv = c.loop-i.invariant in
+    let enough : buffer_length ≤ length c.loop-i.out = omega (arith, inv.1, inv.2) in
+    (called {block = c.args.block.now}
+    {i = c.loop-i.i} enough
+    c.loop-i-test.true
+    c.feed-part.ensures).length-is ∙ inv.2
 
 pub returns-then-not-written : goal.returns-then-not-written
 returns-then-not-written g c = λ e. absurd (let z : ◌≡◌ {A = ℕ} 0 1 = cc in (omega arith))
 
 pub loop-i-smaller : goal.loop-i-smaller
 loop-i-smaller g c =
-    let at-feed = c in
-    let at-if1 = at-feed in
-    let at-is-closed = at-if1 in
-    let at-loop-test = at-is-closed in
-    let at-loop = at-loop-test in
-    let at-start = at-loop in
-    let inv = at-loop.loop-i.invariant in
-    let enough : buffer_length ≤ length at-loop.loop-i.out = omega (arith, inv.1, inv.2) in
-    let step = called {block = at-start.args.block.now}
-    {i = at-loop.loop-i.i} enough
-    at-loop-test.loop-i-test.true
-    at-feed.feed-part.ensures in
+    let inv = c.loop-i.invariant in
+    let enough : buffer_length ≤ length c.loop-i.out = omega (arith, inv.1, inv.2) in
+    let step = called {block = c.args.block.now}
+    {i = c.loop-i.i} enough
+    c.loop-i-test.true
+    c.feed-part.ensures in
     omega (
       arith,
       step.within,
       step.some
-          (sym at-is-closed.is_closed.ensures
-          ∙ at-if1.if-is_closed.false),
+          (sym c.is_closed.ensures
+          ∙ c.if-is_closed.false),
     )
 
 pub loop-i-preserved : goal.loop-i-preserved
 loop-i-preserved g c =
-    let at-feed = c in
-    let at-loop-test = at-feed in
-    let at-loop = at-loop-test in
-    let at-start = at-loop in
-    let inv = at-loop.loop-i.invariant in
-    let enough : buffer_length ≤ length at-loop.loop-i.out = omega (arith, inv.1, inv.2) in
-    let step = called {block = at-start.args.block.now}
-    {i = at-loop.loop-i.i} enough
-    at-loop-test.loop-i-test.true
-    at-feed.feed-part.ensures in
+    let inv = c.loop-i.invariant in
+    let enough : buffer_length ≤ length c.loop-i.out = omega (arith, inv.1, inv.2) in
+    let step = called {block = c.args.block.now}
+    {i = c.loop-i.i} enough
+    c.loop-i-test.true
+    c.feed-part.ensures in
     (step.within, inv.1, step.length-is ∙ inv.2, λ last t. inv.3 last (step.on t))
 
 pub shape_of-out : goal.shape_of-out

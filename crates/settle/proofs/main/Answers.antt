@@ -28,23 +28,20 @@ slice_bounds-turn-end-in-loop-turns c = c.loop-turns.invariant.1
 
 pub turn-passed-requires : goal.turn-passed-requires
 turn-passed-requires c =
-    let at-read-on = c in
-    let inv = at-read-on.loop-turns.invariant in
-    let same : ◌≡◌ {A = ℕ} 65536 (length at-read-on.read_on-n.new.block) = search (rules, inv) in record {
-      all_in_bounds = omega (arith, at-read-on.read_on-n.ensures, inv.0);
+    let inv = c.loop-turns.invariant in
+    let same : ◌≡◌ {A = ℕ} 65536 (length c.read_on-n.new.block) = search (rules, inv) in record {
+      all_in_bounds = omega (arith, c.read_on-n.ensures, inv.0);
       buffer_length_in_bounds = omega (arith, inv.1);
     }
 
 pub slice_bounds-close-end : goal.slice_bounds-close-end
 slice_bounds-close-end c =
-    let at_turn = c in
-    search (rules, at_turn.loop-turns.invariant)
+    search (rules, c.loop-turns.invariant)
 
 pub close-requires : goal.close-requires
 close-requires c =
-    let at_turn = c in
-    let inv = at_turn.loop-turns.invariant in
-    let same : buffer_length ≡ length at_turn.turn-passed.new.out = search (rules, inv) in
+    let inv = c.loop-turns.invariant in
+    let same : buffer_length ≡ length c.turn-passed.new.out = search (rules, inv) in
     omega (arith, same)
 
 pub overflow_sub-turns : goal.overflow_sub-turns
@@ -55,7 +52,5 @@ loop-turns-smaller c = omega arith
 
 pub loop-turns-preserved : goal.loop-turns-preserved
 loop-turns-preserved c =
-    let at_turn = c in
-    let at-read-on = at_turn in
-    let inv = at-read-on.loop-turns.invariant in
-    (search (rules, inv), search (rules, inv), omega (arith, at_turn.turn-passed.ensures.fewer.0, at-read-on.read_on-n.ensures, inv.0))
+    let inv = c.loop-turns.invariant in
+    (search (rules, inv), search (rules, inv), omega (arith, c.turn-passed.ensures.fewer.0, c.read_on-n.ensures, inv.0))

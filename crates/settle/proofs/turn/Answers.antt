@@ -26,23 +26,17 @@ slice_bounds-fed-end-2 g c = sym (length-take-le _ _ (few _ _ _ c.requires.all_i
 
 pub left_over-requires : goal.left_over-requires
 left_over-requires g c =
-    let at-fed-length = c in
-    let start = at-fed-length in
-    ((few _ _ _ start.requires.all_in_bounds at-fed-length.fed_length-end.ensures.0).0, start.requires.all_in_bounds)
+    ((few _ _ _ c.requires.all_in_bounds c.fed_length-end.ensures.0).0, c.requires.all_in_bounds)
 
 pub returns : goal.returns
 returns g c =
-    let at-left-over = c in
-    let at-fed = at-left-over in
-    let at-fed-length = at-fed in
-    let start = at-fed-length in
-    let block = start.args.block.now in
-    let left = at-left-over.left_over.result in
-    let over = at-left-over.left_over.ensures in
-    let in_all = few _ _ _ start.requires.all_in_bounds at-fed-length.fed_length-end.ensures.0 in
-    let whole = length-take-le start.args.all block start.requires.all_in_bounds in
-    let end_is : at-fed-length.fed_length-end.result ≡ start.args.all - left = omega (arith, in_all.0, over.0) in record {
-      fed = λ e. subst (λ (n : ℕ). Through start.args.reader (take n block) at-fed.fed-passed.result.reader) end_is (at-fed.fed-passed.ensures e);
+    let block = c.args.block.now in
+    let left = c.left_over.result in
+    let over = c.left_over.ensures in
+    let in_all = few _ _ _ c.requires.all_in_bounds c.fed_length-end.ensures.0 in
+    let whole = length-take-le c.args.all block c.requires.all_in_bounds in
+    let end_is : c.fed_length-end.result ≡ c.args.all - left = omega (arith, in_all.0, over.0) in record {
+      fed = λ e. subst (λ (n : ℕ). Through c.args.reader (take n block) c.fed-passed.result.reader) end_is (c.fed-passed.ensures e);
       kept = over.1 ∙ ap (λ (n : ℕ). take left (drop n block)) end_is;
-      fewer = (omega (arith, over.0), λ h. omega (arith, over.0, in_all.0, at-fed-length.fed_length-end.ensures.1 (omega (arith, whole))));
+      fewer = (omega (arith, over.0), λ h. omega (arith, over.0, in_all.0, c.fed_length-end.ensures.1 (omega (arith, whole))));
     }

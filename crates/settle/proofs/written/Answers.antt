@@ -10,7 +10,6 @@ use Rattle.settle.proofs.written.Goals as goal
 
 pub slice_bounds-write_all-end : goal.slice_bounds-write_all-end
 slice_bounds-write_all-end g c =
-    let at-start = c in
     sym
-    (length-take-le _ _ (subst (λ (p : Printed). length_of p ≤ length at-start.args.out.now)
-    c.in-Length.is at-start.requires))
+    (length-take-le _ _ (subst (λ (p : Printed). length_of p ≤ length c.args.out.now)
+    c.in-Length.is c.requires))
