@@ -52,12 +52,6 @@ overflow_sub-to c = c.loop-k.invariant.0
 pub overflow_add-byte : goal.overflow_add-byte
 overflow_add-byte c = omega (arith, c.loop-k.invariant.1, c.well_formed)
 
-pub bounds-block-from : goal.bounds-block-from
-bounds-block-from c = let inv = c.loop-k.invariant in omega (arith, inv.0, inv.1, inv.3.long)
-
-pub bounds-block-k : goal.bounds-block-k
-bounds-block-k c = let inv = c.loop-k.invariant in omega (arith, inv.0, inv.1, inv.3.long)
-
 pub overflow_add-k : goal.overflow_add-k
 overflow_add-k c = omega arith
 
