@@ -63,7 +63,8 @@ fn idle(part: Part) -> bool
     let outer = part.outer;
     let inner = part.inner;
     if part.setpoint == 0 {
-        if outer.0 == 0 {
+        let unreached = outer.0 == 0;
+        if unreached {
             return inner.0 == 0;
         }
         if part.actual == 0 {

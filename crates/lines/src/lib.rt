@@ -96,7 +96,8 @@ impl Gatherer {
                     complete: true,
                 };
             }
-            if length < KEPT {
+            let has_room = length < KEPT;
+            if has_room {
                 bytes[length] = byte;
                 length += 1;
             }

@@ -91,7 +91,8 @@ fn stretch(powers: &[u64], low: Power, high: Power) -> Run
         }
         let once = wrapping_add_u64(sum, first);
         let second = wrapping_sub_u64(powers[i + 1], low);
-        if width < second {
+        let passes = width < second;
+        if passes {
             return Run {
                 count: i + 1,
                 sum: once,

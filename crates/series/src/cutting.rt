@@ -73,7 +73,8 @@ fn orderly(limits: &[u64]) -> bool
     let mut k: usize = 0;
     while k < limits.len() {
         let high = limits[k];
-        if high < low {
+        let falls = high < low;
+        if falls {
             return false;
         }
         if 281_474_976_710_656 < high {

@@ -9,8 +9,8 @@ returns-then-former-lt7 c = not_same
 pub overflow_sub-width : goal.overflow_sub-width
 overflow_sub-width c = width c.requires.kept c.if-former-lt7.false
 
-pub returns-then-width-gt7 : goal.returns-then-width-gt7
-returns-then-width-gt7 c = not_same
+pub returns-then-longer : goal.returns-then-longer
+returns-then-longer c = not_same
 
 pub returns-then-lines-tab : goal.returns-then-lines-tab
 returns-then-lines-tab c = not_same
@@ -22,4 +22,4 @@ returns c =
     let at-if' = at-if in
     let at-if'' = at-if' in
     let entry = at-if'' in
-    by-words entry.requires.kept at-if''.if-former-lt7.false at-if'.if-width-gt7.false at-if.if-lines-tab.false at-word-at.word_at.ensures c.word_at-2.ensures
+    by-words entry.requires.kept at-if''.if-former-lt7.false at-if'.if-longer.false at-if.if-lines-tab.false at-word-at.word_at.ensures c.word_at-2.ensures

@@ -3,7 +3,7 @@
 use Rattle.std.proofs.Common.{length as size, sym, ap, ◌∙◌, arith, length-set, rules}
 use Rattle.lines.specs.Gathering.{completed}
 use Rattle.lines.proofs.Reading.{kept, overlong, at_once, line-ends, byte_more, block-ends}
-use Rattle.lines.proofs.Gatherer.gather.Goals.{then-length-lt-KEPT, else-length-lt-KEPT}
+use Rattle.lines.proofs.Gatherer.gather.Goals.{then-has_room, else-has_room}
 use Rattle.lines.proofs.Gatherer.gather.Goals as goal
 
 pub loop-i-init : goal.loop-i-init
@@ -37,20 +37,20 @@ loop-i-smaller c = omega arith
 pub loop-i-preserved : goal.loop-i-preserved
 loop-i-preserved c =
     let inv = c.loop-i.invariant in
-    elim c.if-length-lt-KEPT.branch [
-      | then-length-lt-KEPT w ↦ (
+    elim c.if-has_room.branch [
+      | then-has_room w ↦ (
         omega arith,
         ap size w.bytes-is ∙ simp length-set inv.1,
         inv.2
             ∙ byte_more _ _ _ c.loop-i-test.true c.if-byte-eq-LF.false _
-            (rw (w.bytes-is, w.length-is) (kept _ _ w.if-length-lt-KEPT.true)),
+            (rw (w.bytes-is, w.length-is) (kept _ _ w.if-has_room.true)),
       )
-      | else-length-lt-KEPT w ↦ (
+      | else-has_room w ↦ (
         omega arith,
         ap size w.bytes-is ∙ inv.1,
         inv.2
             ∙ byte_more _ _ _ c.loop-i-test.true c.if-byte-eq-LF.false _
-            (rw (w.bytes-is, w.length-is) (overlong _ _ w.if-length-lt-KEPT.false)),
+            (rw (w.bytes-is, w.length-is) (overlong _ _ w.if-has_room.false)),
       )
     ]
 

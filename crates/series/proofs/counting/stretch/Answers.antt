@@ -48,8 +48,8 @@ offset_bounds-powers-i-in-loop-i c = omega arith
 pub overflow_add-result : goal.overflow_add-result
 overflow_add-result c = omega arith
 
-pub returns-then-width-second : goal.returns-then-width-second
-returns-then-width-second c = (omega arith, once (goal.at.returns-then-width-second c).After-wrapping_add_u64-once)
+pub returns-then-passes : goal.returns-then-passes
+returns-then-passes c = (omega arith, once (goal.at.returns-then-passes c).After-wrapping_add_u64-once)
 
 pub overflow_add-i-in-loop-i-2 : goal.overflow_add-i-in-loop-i-2
 overflow_add-i-in-loop-i-2 c = omega arith
@@ -63,7 +63,7 @@ loop-i-preserved c =
     let l = c.loop-i in (
       omega arith,
       ran-lifted a.low.0 a.high.0 a.powers.now c.wrapping_add_u64-once.result (l.i + 1) c.wrapping_sub_u64-second.result _ _
-          c.loop-i-test.true (omega arith) (omega arith) c.wrapping_sub_u64-second.ensures.value c.if-width-second.false
+          c.loop-i-test.true (omega arith) (omega arith) c.wrapping_sub_u64-second.ensures.value c.if-passes.false
           c.wrapping_add_u64-sum.ensures.value (omega arith) (once (goal.at.loop-i-preserved c).After-wrapping_add_u64-once),
     )
 

@@ -13,8 +13,8 @@ offset_bounds-limits-k c = omega arith
 pub bounds-limits-k : goal.bounds-limits-k
 bounds-limits-k c = c.loop-k-test.true
 
-pub returns-then-high-low : goal.returns-then-high-low
-returns-then-high-low c = λ e. absurd (let z : ◌≡◌ {A = ℕ} 0 1 = cc e in omega arith)
+pub returns-then-falls : goal.returns-then-falls
+returns-then-falls c = λ e. absurd (let z : ◌≡◌ {A = ℕ} 0 1 = cc e in omega arith)
 
 pub returns-then-high-gt281474976710656 : goal.returns-then-high-gt281474976710656
 returns-then-high-gt281474976710656 c = λ e. absurd (let z : ◌≡◌ {A = ℕ} 0 1 = cc e in omega arith)
@@ -31,7 +31,7 @@ loop-k-preserved c =
     let at-loop = at-loop-test in
     let at-start = at-loop in
     let l = at-loop.loop-k in
-    rose-more at-start.args.limits.now l.low l.k at-loop-test.loop-k-test.true c.if-high-low.false c.if-high-gt281474976710656.false l.invariant
+    rose-more at-start.args.limits.now l.low l.k at-loop-test.loop-k-test.true c.if-falls.false c.if-high-gt281474976710656.false l.invariant
 
 pub returns : goal.returns
 returns c =
