@@ -28,7 +28,7 @@ climb_of i lot most least = max_z (pos lot) (most -ℤ least) *ℤ pos (20 * (wi
 abbrev pub onward_of : Side → ℤ → ℤ → ℤ → ℤ
 onward_of side near held gradient = farther_of side (units_of near) (inward_of side held gradient)
 
--- the same by the past: `nextOga` and `nextUga`, once the gradient is that of the past
+-- the same by the past: `next_oga` and `next_uga`, once the gradient is that of the past
 abbrev pub bound_of : Side → Interval → (ℕ → ℤ) → ℤ → ℤ → ℤ
 bound_of side i f held gradient =
     onward_of side (over (farther_of side) f 0 ((windows_of i).near - 0)) held gradient

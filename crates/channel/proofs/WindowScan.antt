@@ -50,7 +50,7 @@ module _ (i : Interval) (lot : ℕ) (start : Start) (before ss : List ℤ) (ch :
       ∙ ap (λ (f : ℕ → ℤ). f j) (all_back p (length before + k) (omega (arith, length-append before ss)))
 
   -- THE WINDOWS ARE THE SCAN: at each sample the passes show the largest and the smallest setpoint of the near window and of the spread window, each
-  -- looked up over all setpoints back from that sample (`seenBy` is `largest` and `smallest` of both windows)
+  -- looked up over all setpoints back from that sample (`seen_by` is `largest` and `smallest` of both windows)
   pub windows-are-the-scan : (line highest lowest most least : List ℤ)
       → Lined ready.ring (ready.newest % 302) ss line (length ss) → Shown i line (length ss) highest lowest most least
       → (k : ℕ) → k < length ss → seen_at i lot line (length ss) highest lowest most least k

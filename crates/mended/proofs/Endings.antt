@@ -181,7 +181,7 @@ pub accepted-say : (lines : List (List ℕ)) (so : SoFar) → Accepts nothing li
 accepted-say [] so none = no_line_lem
 accepted-say (line ∷ lines) so (more a n r) = says_first line lines so (entry_of line) refl a r
 
--- ---- EVERY RECORDING ends in exactly one of the three ways: the one that `endingOf` names
+-- ---- EVERY RECORDING ends in exactly one of the three ways: the one that `ending_of` names
 
 from_start : (input : List ℕ) → recording input ≡ printed nothing ++ walked nothing 1 (lines_of input)
 unfolding recording

@@ -155,9 +155,9 @@ module _ (t : Grid) (rows : List Recorded) (row : Recorded) (so : Stands t rows)
   good = good_of t rows
 
   -- where it is dropped
-  module _ {item : Item} (d : Dropped row item) (not-Good : is_good t good row ≡ false) (says : recorded_items t rows row ≡ item ∷ []) where
+  module _ {item : Item} (d : Dropped row item) (not-good : is_good t good row ≡ false) (says : recorded_items t rows row ≡ item ∷ []) where
     same_good : good_of t (rows ++ (row ∷ [])) ≡ good
-    same_good = good-end t rows row ∙ ap (λ (b : Bool). cond b (good ++ (row ∷ [])) good) not-Good
+    same_good = good-end t rows row ∙ ap (λ (b : Bool). cond b (good ++ (row ∷ [])) good) not-good
 
     item-more : items_of t (rows ++ (row ∷ [])) ≡ items_of t rows ++ (item ∷ [])
     item-more = items-end t [] rows row ∙ ap (λ (l : List Item). items_of t rows ++ l) says

@@ -112,7 +112,7 @@ pub record ShortRecording (input : List ℕ) (so : SoFar) (n : ℕ) : Type 0 whe
   pub number : n ≡ length (lines_of input) + 1
   pub items : recording input ≡ printed so ++ (refused n NoEnd ∷ [])
 
--- EXACTLY ONE OF THEM: the one that `endingOf` names
+-- EXACTLY ONE OF THEM: the one that `ending_of` names
 abbrev pub EndsSo : List ℕ → Ending → Type 0
 EndsSo input (whole nothing) = ⊥
 EndsSo input (whole (these h rows)) = AcceptedRecording input h rows

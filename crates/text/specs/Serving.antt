@@ -1,4 +1,4 @@
--- How the code serves a line: whether it comes in its place, and then what the run is asked. `lineTurn` says the same by stages.
+-- How the code serves a line: whether it comes in its place, and then what the run is asked. `line_turn` says the same by stages.
 use Rattle.std.specs.Prelude.{◌≡◌, ℕ, ◌≤◌, List, length, ℤ}
 use Rattle.vocabulary.specs.declared.refusal.Refusal.{Refusal}
 use Rattle.vocabulary.specs.declared.refusal.Refusal.TheVariants.{None, WrongMoment, BadLine}

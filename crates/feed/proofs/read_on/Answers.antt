@@ -1,4 +1,4 @@
--- `feed::read_on` meets its contract: each step is a step of `feedOf`, and where none follows, what was read and printed is all of it.
+-- `feed::read_on` meets its contract: each step is a step of `feed_of`, and where none follows, what was read and printed is all of it.
 -- Assumes nothing.
 use Prim.Native.Nat.{ℕ, ◌-◌, ◌≤◌}
 use mathlib.Core.Path.{sym, subst}

@@ -1,4 +1,4 @@
--- `shares::acceptable::near` meets its contract: test by test it is `nearOf`, and a product of two numbers of 32 bits fits.
+-- `shares::acceptable::near` meets its contract: test by test it is `near_of`, and a product of two numbers of 32 bits fits.
 -- Assumes nothing.
 use Prim.Native.Nat.{◌*◌, ◌≤◌}
 use native.Mathlib.Nat.{mul-le-mul, div-le_self}
