@@ -283,7 +283,8 @@ class OneList(FrontEnd):
         files = sorted((ROOT / "crates" / "vocabulary" / "src").rglob("*.rt"))
         code = "".join(path.read_text(encoding="utf-8") for path in files)
         numbers = {(case, int(number)) for case, number in re.findall(r"Refusal::(\w+) => (\d+)", code)}
-        self.assertEqual(numbers, {(refusal.case, refusal.number) for refusal in refusals.REFUSALS} | {("None", 0)})
+        self.assertEqual(numbers, {(refusal.case, refusal.number) for refusal in refusals.REFUSALS})
+        self.assertIn("Ok(()) => 0,", code, "where nothing is refused the number is 0")
 
     def test_readme(self):
         rows = re.findall(r"^\|.*\|$", (ROOT / "README.md").read_text(encoding="utf-8"), re.M)

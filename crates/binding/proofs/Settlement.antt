@@ -3,6 +3,7 @@ use mathlib.Core.List.{List, []}
 use mathlib.Core.Path.{◌∙◌, sym}
 use lib.IntN.{ℤ}
 use Rattle.binding.specs.Single.{Single, SingleBytes}
+use Rattle.settlement.proofs.run.Run.unopened.Reads as unopened
 use Rattle.settlement.proofs.run.Run.open.Reads as opened
 use Rattle.settlement.proofs.run.Run.books.Reads as books
 use Rattle.settlement.proofs.run.Run.bounds.Reads as bounds
@@ -20,6 +21,9 @@ use Rattle.settlement.proofs.run.Run.heading.Reads as heading
 use Rattle.settlement.proofs.run.Run.lacks.Reads as lacks
 use Rattle.settlement.proofs.grounds.open_refusal.Reads as open-refusal
 use Rattle.settlement.proofs.plan.interval_of.Reads as interval-of
+
+unopened-single : Single unopened.Post
+unopened-single κs a r r' x x' p q = p ∙ sym q
 
 opened-single : Single opened.Post
 opened-single κs a r r' x x' p q = p ∙ sym q

@@ -21,13 +21,13 @@ pub struct Seen {
     pub least: i32,
 }
 
-// The gradient per interval, in units, by the largest and the smallest setpoint in the spread window. It is never negative, since the lot is not.
+// The gradient per interval, in units, by the largest and the smallest setpoint in the spread window: a 270th of what is steepest each second, so 20 units
+// for a kW. It is never negative, since the lot is not. Interval and lot go together but stay two, since the definitions take them apart.
 fn climb(interval: Interval, lot: u32, most: i32, least: i32) -> i64
     ensures { (result ≡ climb_of interval lot most least) × ((down result ≡ 0) × (up result < 2 ^ 40)) }
 {
-    let steepest = larger(lot as i64, (most as i64) - (least as i64));
-    let windows = interval.windows();
-    steepest * ((20 * windows.seconds) as i64)
+    let steepest = larger(i64::from(lot), i64::from(most) - i64::from(least));
+    steepest * i64::from(20 * interval.windows().seconds)
 }
 
 // A bound, one gradient inward.
@@ -46,8 +46,7 @@ fn onward(side: Side, near: i32, held: i64, gradient: i64) -> i64
     requires { ((down gradient ≡ 0) × (up gradient < 2 ^ 40)) × Movable side held }
     ensures { (result ≡ onward_of side near held gradient) × Movable side result }
 {
-    let outermost = in_units(near);
-    farther(side, outermost.0, inward(side, held, gradient))
+    farther(side, in_units(near).0, inward(side, held, gradient))
 }
 
 // OGA and UGA after one sample more, by what its windows show, from bounds that can be moved by a gradient. So can the next ones, since
@@ -57,10 +56,8 @@ pub(crate) fn next_movable(interval: Interval, lot: u32, seen: Seen, held: Bound
     ensures { (result ≡ next_of interval lot seen held) × MovableBounds result }
 {
     let gradient = climb(interval, lot, seen.most, seen.least);
-    let oga = held.oga;
-    let uga = held.uga;
-    let above = onward(Side::Upper, seen.highest, oga.0, gradient);
-    let below = onward(Side::Lower, seen.lowest, uga.0, gradient);
+    let above = onward(Side::Upper, seen.highest, held.oga.0, gradient);
+    let below = onward(Side::Lower, seen.lowest, held.uga.0, gradient);
     Bounds {
         oga: Units(above),
         uga: Units(below),
@@ -72,13 +69,9 @@ pub(crate) fn next_movable(interval: Interval, lot: u32, seen: Seen, held: Bound
 pub(crate) fn movable(held: Bounds) -> Bounds
     ensures { result ≡ movable_of held }
 {
-    let oga = held.oga;
-    let uga = held.uga;
-    let above = larger(oga.0, -17_592_186_044_416);
-    let below = smaller(uga.0, 17_592_186_044_416);
     Bounds {
-        oga: Units(above),
-        uga: Units(below),
+        oga: Units(larger(held.oga.0, -17_592_186_044_416)),
+        uga: Units(smaller(held.uga.0, 17_592_186_044_416)),
     }
 }
 

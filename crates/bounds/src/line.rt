@@ -5,15 +5,8 @@ ghost use Rattle.bounds.specs.Line.{Flat, NearWindows, SpreadWindows, Shown, led
 use crate::bound::{Seen, movable, next_movable};
 use crate::side::Side;
 use crate::widening::grown;
-use arithmetic::whole::least;
 use vocabulary::acceptance::Bounds;
 use vocabulary::interval::Interval;
-
-fn blank() -> [i32; 1202]
-    ensures { length result ≡ 1202 }
-{
-    [0i32; 1202]
-}
 
 // The near and the spread window at each of the n setpoints after the first 302, on one side. The spread one is made of the near
 // ones, and stands where it ends.
@@ -45,7 +38,7 @@ fn show(
 }
 
 // OGA and UGA at each of n setpoints, by the windows there, into two series that are lent; and after the last. Each waits for the one
-// before it, so what is held is made movable once, before the first.
+// before it, so what is held is made movable once, before the first. The four windows stay four series: on a flat line each of them is the line itself.
 fn bounded(
     interval: Interval,
     lot: u32,
@@ -66,11 +59,9 @@ fn bounded(
     if n == 0 {
         return held;
     }
-    let windows = interval.windows();
-    let from = windows.from;
+    let from = interval.windows().from;
     let mut last = movable(held);
-    let mut i = 0;
-    while i < n {
+    for i in 0..n {
         let seen = Seen {
             highest: highest[302 + i],
             lowest: lowest[302 + i],
@@ -78,13 +69,8 @@ fn bounded(
             least: least[302 + i - from],
         };
         last = next_movable(interval, lot, seen, last);
-        let oga = last.oga;
-        let uga = last.uga;
-        let above = oga.0;
-        let below = uga.0;
-        ogas[i] = above;
-        ugas[i] = below;
-        i += 1;
+        ogas[i] = last.oga.0;
+        ugas[i] = last.uga.0;
     }
     last
 }
@@ -94,25 +80,25 @@ fn is_flat(line: &[i32], n: usize) -> bool
     requires { n ≤ length line.now }
     ensures { result ≡ true → Flat line.now n }
 {
-    let mut k = 1;
-    while k < n {
+    for k in 1..n {
         if line[k] != line[0] {
             return false;
         }
-        k += 1;
     }
     true
 }
 
 // How many of some setpoints are led along: no more than 900, and than either series has places for.
+#[tactic(auto, unfolding(crate::specs::Line::led_count, arithmetic::specs::Whole::least_of))]
 pub fn led_count(count: usize, ogas: usize, ugas: usize) -> usize
     ensures { result ≡ led_count count ogas ugas }
 {
-    least(least(count as u64, 900), least(ogas as u64, ugas as u64)) as usize
+    count.min(900).min(ogas.min(ugas))
 }
 
 // OGA and UGA along the first `count` setpoints after the first 302 of a line, from the bounds before them: as many as there is room for in the two series
-// that they go into, of 900 at most.
+// that they go into, of 900 at most. The line comes by value: so its length is known, and nothing is asked.
+#[tactic(auto, unfolding(crate::specs::Line::led_count, arithmetic::specs::Whole::least_of))]
 pub fn lead(
     interval: Interval,
     lot: u32,
@@ -131,11 +117,11 @@ pub fn lead(
             interval, lot, held, &line, &line, &line, &line, n, ogas, ugas,
         );
     }
-    let mut highest = blank();
-    let mut lowest = blank();
-    let mut most = blank();
-    let mut least = blank();
-    let mut aside = blank();
+    let mut highest = [0; 1202];
+    let mut lowest = [0; 1202];
+    let mut most = [0; 1202];
+    let mut least = [0; 1202];
+    let mut aside = [0; 1202];
     show(
         Side::Upper,
         interval,

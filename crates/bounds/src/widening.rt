@@ -6,27 +6,23 @@ ghost use Rattle.bounds.specs.Widening.{either_at, Reaching};
 
 use crate::side::{Side, outer};
 
-// Windows of w + d setpoints, from those of w that end d places apart.
+// Windows of w + d setpoints, from those of w that end d places apart. Slices and how much of them counts stay apart: the laws say up to which place
+// windows are right.
 fn widen(side: Side, a: &[i32], b: &mut [i32], len: usize, w: usize, d: usize)
     requires { ((len ≤ length a.now) × (len ≤ length b.old)) × ((0 < w) × (w + d ≤ 1202)) }
     ensures { Fills (either_at side a.now d) (w + d - 1) len b.new }
 {
-    let mut i = w + d - 1;
-    while i < len {
+    for i in w + d - 1..len {
         b[i] = outer(side, a[i], a[i - d]);
-        i += 1;
     }
 }
 
-// By how much windows of m setpoints are widened at once, on the way to `to`.
+// By how much windows of m setpoints are widened at once, on the way to `to`. The two lengths stay two numbers: the first moves at each turn.
 fn step(m: usize, to: usize) -> usize
     requires { (0 < m) × (m ≤ to) }
     ensures { ((result ≤ m) × (m + result ≤ to)) × (m < to → 0 < result) }
 {
-    if to - m < m {
-        return to - m;
-    }
-    m
+    m.min(to - m)
 }
 
 // Windows of `from` setpoints made windows of `to`; every second pass is written aside.
@@ -35,6 +31,7 @@ fn grow(side: Side, x: &mut [i32], y: &mut [i32], len: usize, from: usize, to: u
     ensures { (line : List ℤ) → Reaching side line from len x.old → Reaching side line to len x.new }
 {
     let mut m = from;
+    // no `for`, since each turn widens by as much as it can
     while m < to {
         let d = step(m, to);
         widen(side, x, y, len, m, d);
@@ -52,6 +49,7 @@ fn odd_passes(from: usize, to: usize) -> bool
 {
     let mut odd = false;
     let mut m = from;
+    // no `for`, since it widens as `grow` does
     while m < to {
         m += step(m, to);
         odd = !odd;
@@ -78,10 +76,10 @@ pub(crate) fn grown(
     if odd_passes(from, to) {
         widen(side, a, x, len, from, d);
         grow(side, x, y, len, wider, to);
-        return;
+    } else {
+        widen(side, a, y, len, from, d);
+        let e = step(wider, to);
+        widen(side, y, x, len, wider, e);
+        grow(side, x, y, len, wider + e, to);
     }
-    widen(side, a, y, len, from, d);
-    let e = step(wider, to);
-    widen(side, y, x, len, wider, e);
-    grow(side, x, y, len, wider + e, to);
 }

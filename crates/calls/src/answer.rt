@@ -1,8 +1,6 @@
 // What a call answered, on standard output. A write that fails is not told: what is missing then differs from what another program writes.
-ghost use Rattle.std.specs.Prelude.{◌≡◌, length};
-
-use sheets::Printed;
-use vocabulary::refusal::Refusal;
+use sheets::BUFFER;
+use vocabulary::refusal::{self, Refusal};
 
 fn put(rt: &impl Print, bytes: &[u8]) {
     let _ = rt.write_all(bytes);
@@ -19,48 +17,34 @@ fn also(rt: &impl Print, n: u64) {
 }
 
 // The line of an answer as far as every call has it: the line of the script, and the refusal's number.
-fn begun(rt: &impl Print, line: u64, refusal: Refusal) {
+fn begun(rt: &impl Print, line: u64, ruling: Result<(), Refusal>) {
     put_number(rt, line);
-    also(rt, refusal.number() as u64);
+    also(rt, u64::from(refusal::number(ruling)));
 }
 
-pub(crate) fn answered(rt: &impl Print, line: u64, refusal: Refusal) {
-    begun(rt, line, refusal);
+pub(crate) fn answered(rt: &impl Print, line: u64, ruling: Result<(), Refusal>) {
+    begun(rt, line, ruling);
     put(rt, b"\n");
 }
 
 // With how many past setpoints or samples were accepted, or how many bytes were printed.
-pub(crate) fn counted(rt: &impl Print, line: u64, refusal: Refusal, count: u64) {
-    begun(rt, line, refusal);
+pub(crate) fn counted(rt: &impl Print, line: u64, ruling: Result<(), Refusal>, count: u64) {
+    begun(rt, line, ruling);
     also(rt, count);
     put(rt, b"\n");
 }
 
 // With how many contracts there are in each direction.
 pub(crate) fn counted_both(rt: &impl Print, line: u64, above: u64, below: u64) {
-    begun(rt, line, Refusal::None);
+    begun(rt, line, Ok(()));
     also(rt, above);
     also(rt, below);
     put(rt, b"\n");
 }
 
-// The longest buffer that is lent, filled so that a byte which a call leaves is told from one which it writes.
-pub(crate) fn dotted() -> [u8; 16384]
-    ensures { 16384 ≡ length result }
-{
-    [b'.'; 16384]
-}
-
-pub(crate) fn length_of(printed: Printed) -> u64 {
-    match printed {
-        Printed::Length(n) => n as u64,
-        Printed::TooShort => 0,
-    }
-}
-
 // The text that was printed at the start of a buffer, which comes by value: lending it would be some steps more in each caller.
-pub(crate) fn showed(rt: &impl Print, printed: Printed, out: [u8; 16384]) {
-    let n = length_of(printed) as usize;
+pub(crate) fn showed(rt: &impl Print, printed: Result<usize, Refusal>, out: [u8; BUFFER]) {
+    let n = printed.unwrap_or(0);
     if n <= out.len() {
         put(rt, &out[..n]);
     }
@@ -73,10 +57,15 @@ pub(crate) fn buffer(rt: &impl Print, lent: &[u8]) {
 }
 
 // A printing call's answer and its buffer.
-pub(crate) fn showed_whole(rt: &impl Print, line: u64, printed: Printed, lent: &[u8]) {
+pub(crate) fn showed_whole(
+    rt: &impl Print,
+    line: u64,
+    printed: Result<usize, Refusal>,
+    lent: &[u8],
+) {
     match printed {
-        Printed::Length(n) => counted(rt, line, Refusal::None, n as u64),
-        Printed::TooShort => answered(rt, line, Refusal::BufferTooShort),
+        Ok(n) => counted(rt, line, Ok(()), n as u64),
+        Err(refusal) => answered(rt, line, Err(refusal)),
     }
     buffer(rt, lent);
 }

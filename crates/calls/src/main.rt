@@ -29,7 +29,7 @@ use arithmetic::power::Units;
 use channel::Channel;
 use quarter::sheet::{Sheets, no_sheets};
 use settlement::run::{Answer, Run, Taken};
-use sheets::{Printed, print_block, print_head, print_quarter, print_refusal, print_total};
+use sheets::{BUFFER, print_block, print_head, print_quarter, print_refusal, print_total};
 use std::io::Read;
 use vocabulary::acceptance::Bounds;
 use vocabulary::contract::Contract;
@@ -47,11 +47,18 @@ fn header_of(line: &[u8]) -> Header {
     }
 }
 
+// A refused opening gives no run: what stands in its place refuses every call.
 fn open(rt: &impl Print, at: u64, line: &[u8]) -> Run {
-    let opened = Run::open(header_of(line));
-    let refusal = opened.refusal;
-    answer::answered(rt, at, refusal);
-    opened.run
+    match Run::open(header_of(line)) {
+        Ok(run) => {
+            answer::answered(rt, at, Ok(()));
+            run
+        }
+        Err(refusal) => {
+            answer::answered(rt, at, Err(refusal));
+            Run::unopened()
+        }
+    }
 }
 
 fn bounds_of(line: &[u8]) -> Bounds {
@@ -79,58 +86,58 @@ fn sample_of(line: &[u8]) -> Sample {
 // What a line gives to the run: the bounds of a block, a past setpoint, a contract or a sample.
 fn given(run: Run, line: &[u8]) -> Answer {
     match script::letter(line, 0) {
-        b'A' => return run.bounds(bounds_of(line)),
-        b'B' => return run.setpoint(script::integer(line, 2)),
-        b'C' => return run.contract(contract_of(line), script::field(line, 4)),
-        _ => return run.sample(sample_of(line)),
+        b'A' => run.bounds(bounds_of(line)),
+        b'B' => run.setpoint(script::integer(line, 2)),
+        b'C' => run.contract(contract_of(line), script::field(line, 4)),
+        _ => run.sample(sample_of(line)),
     }
 }
 
 fn once(rt: &impl Print, run: Run, at: u64, line: &[u8]) -> Run {
     let answer = given(run, line);
-    let refusal = answer.refusal;
-    answer::answered(rt, at, refusal);
+    answer::answered(rt, at, answer.refusal);
     answer.run
 }
 
 // The same so often: what the last answered is told, and how many were accepted.
 fn repeated(rt: &impl Print, run: Run, at: u64, line: &[u8]) -> Run {
-    let times = script::count(line, 1, 65_535);
     let mut last = Answer {
-        run: run,
-        refusal: Refusal::None,
+        run,
+        refusal: Ok(()),
     };
     let mut accepted: u64 = 0;
-    let mut done: u64 = 0;
-    while done < times {
+    for _ in 0..script::count(line, 1, 65_535) {
         last = given(last.run, line);
-        let refusal = last.refusal;
-        accepted = std::num::wrapping_add_u64(accepted, (refusal.number() == 0) as u64);
-        done += 1;
+        accepted = accepted.wrapping_add(u64::from(last.refusal.is_ok()));
     }
-    let refusal = last.refusal;
-    answer::counted(rt, at, refusal, accepted);
+    answer::counted(rt, at, last.refusal, accepted);
     last.run
 }
 
 fn show_total(
     rt: &impl Print,
     at: u64,
-    refusal: Refusal,
+    ruling: Result<(), Refusal>,
     quarters: u8,
     fees: Cents,
     penalties: Cents,
 ) {
-    answer::answered(rt, at, refusal);
-    let mut out = answer::dotted();
+    answer::answered(rt, at, ruling);
+    let mut out = [b'.'; BUFFER];
     let printed = print_total(&mut out, quarters, fees, penalties);
     answer::showed(rt, printed, out);
 }
 
 fn end(rt: &impl Print, run: Run, at: u64) -> Run {
     let ended = run.end();
-    let refusal = ended.refusal;
-    show_total(rt, at, refusal, ended.quarters, ended.fees, ended.penalties);
+    show_total(
+        rt,
+        at,
+        ended.refusal,
+        ended.quarters,
+        ended.fees,
+        ended.penalties,
+    );
     ended.run
 }
 
@@ -141,24 +148,23 @@ fn contracts_in(run: Run, direction: Direction) -> u64 {
 // The head is printed before the contracts are counted, and shown after them: so the run is used late, which is checked sooner.
 fn heading(rt: &impl Print, run: Run, at: u64) {
     let heading = run.heading();
-    let interval = heading.interval;
-    let mut out = answer::dotted();
-    let printed = print_head(&mut out, heading.date, interval, heading.lot);
+    let mut out = [b'.'; BUFFER];
+    let printed = print_head(&mut out, heading.date, heading.interval, heading.lot);
     let above = contracts_in(run, Direction::Positive);
     answer::counted_both(rt, at, above, contracts_in(run, Direction::Negative));
     answer::showed(rt, printed, out);
 }
 
 // What the taking of a quarter hour answered.
-fn show_taken(rt: &impl Print, at: u64, refusal: Refusal, quarter: u8, sheets: Sheets) {
-    answer::answered(rt, at, refusal);
-    let mut out = answer::dotted();
+fn show_taken(rt: &impl Print, at: u64, ruling: Result<(), Refusal>, quarter: u8, sheets: Sheets) {
+    answer::answered(rt, at, ruling);
+    let mut out = [b'.'; BUFFER];
     let printed = print_quarter(&mut out, quarter, sheets);
     answer::showed(rt, printed, out);
 }
 
 // The printing calls whose numbers all stand in the line.
-fn printed_numbers(line: &[u8], out: &mut [u8]) -> Printed {
+fn printed_numbers(line: &[u8], out: &mut [u8]) -> Result<usize, Refusal> {
     match script::letter(line, 0) {
         b'V' => print_head(
             out,
@@ -174,62 +180,54 @@ fn printed_numbers(line: &[u8], out: &mut [u8]) -> Printed {
         ),
         _ => print_refusal(
             out,
-            script::count(line, 3, 18446744073709551615),
+            script::count(line, 3, u64::MAX),
             script::refusal(line, 4),
         ),
     }
 }
 
 // A printing call, and the whole buffer that it was lent. The length of the text may decide how much that is, and is asked where there is room.
-fn print_numbers(rt: &impl Print, at: u64, line: &[u8]) {
-    let mut whole = answer::dotted();
-    let text = printed_numbers(line, &mut whole);
-    let n = script::lent(line, answer::length_of(text));
-    let mut buf = answer::dotted();
+fn print_lent<F: Fn(&mut [u8]) -> Result<usize, Refusal>>(
+    rt: &impl Print,
+    at: u64,
+    line: &[u8],
+    print: F,
+)
+    requires { F.IsAlwaysCallable print }
+{
+    let mut whole = [b'.'; BUFFER];
+    let text = print(&mut whole).unwrap_or(0);
+    let n = script::lent(line, text);
+    let mut buf = [b'.'; BUFFER];
     let lent = &mut buf[..n];
-    let told = printed_numbers(line, lent);
-    answer::showed_whole(rt, at, told, lent);
-}
-
-// The same of the sheets of the last taking. Each kind of text has a function that holds what it prints and no more: one for all, with the run, took the
-// prover longer than these three.
-fn print_sheets(rt: &impl Print, sheets: Sheets, at: u64, line: &[u8]) {
-    let quarter = script::byte(line, 3);
-    let mut whole = answer::dotted();
-    let text = print_quarter(&mut whole, quarter, sheets);
-    let n = script::lent(line, answer::length_of(text));
-    let mut buf = answer::dotted();
-    let lent = &mut buf[..n];
-    let told = print_quarter(lent, quarter, sheets);
+    let told = print(lent);
     answer::showed_whole(rt, at, told, lent);
 }
 
 // A printing call that is refused for another reason than its buffer, which stays as it is.
 fn not_printed(rt: &impl Print, at: u64, refusal: Refusal, line: &[u8]) {
-    answer::answered(rt, at, refusal);
+    answer::answered(rt, at, Err(refusal));
     let n = script::lent(line, 0);
-    let buf = answer::dotted();
-    answer::buffer(rt, &buf[..n]);
+    answer::buffer(rt, &[b'.'; BUFFER][..n]);
+}
+
+// The sheets of the last taking.
+fn print_sheets(rt: &impl Print, sheets: Sheets, at: u64, line: &[u8]) {
+    let quarter = script::byte(line, 3);
+    print_lent(rt, at, line, |out| print_quarter(out, quarter, sheets));
 }
 
 // The block that a run hands on, once it can be ended; before that no byte is printed.
-fn print_past(rt: &impl Print, past: Channel, refusal: Refusal, at: u64, line: &[u8]) {
-    if refusal.number() != 0 {
-        return not_printed(rt, at, refusal, line);
+fn print_past(rt: &impl Print, past: Channel, ruling: Result<(), Refusal>, at: u64, line: &[u8]) {
+    match ruling {
+        Ok(()) => print_lent(rt, at, line, |out| print_block(out, past)),
+        Err(refusal) => not_printed(rt, at, refusal, line),
     }
-    let mut whole = answer::dotted();
-    let text = print_block(&mut whole, past);
-    let n = script::lent(line, answer::length_of(text));
-    let mut buf = answer::dotted();
-    let lent = &mut buf[..n];
-    let told = print_block(lent, past);
-    answer::showed_whole(rt, at, told, lent);
 }
 
 fn block(rt: &impl Print, run: Run, at: u64, line: &[u8]) {
     let ended = run.end();
-    let refusal = ended.refusal;
-    print_past(rt, ended.past, refusal, at, line);
+    print_past(rt, ended.past, ended.refusal, at, line);
 }
 
 // The call of a line, which is the `at`-th of the script. What is held from call to call is what the last taking answered, with the run at hand in it;
@@ -244,14 +242,13 @@ fn called(rt: &impl Print, mut held: Taken, at: u64, line: &[u8]) -> Taken {
         b'B' | b'S' => held.run = repeated(rt, held.run, at, line),
         b'K' => {
             held = held.run.take();
-            let refusal = held.refusal;
-            show_taken(rt, at, refusal, held.quarter, held.sheets);
+            show_taken(rt, at, held.refusal, held.quarter, held.sheets);
         }
         b'E' => held.run = end(rt, held.run, at),
         b'H' => heading(rt, held.run, at),
         b'P' => block(rt, held.run, at, line),
         b'Q' => print_sheets(rt, held.sheets, at, line),
-        _ => print_numbers(rt, at, line),
+        _ => print_lent(rt, at, line, |out| printed_numbers(line, out)),
     }
     held
 }
@@ -262,56 +259,32 @@ fn line_end(script: &[u8], from: usize) -> usize
     ensures after { from ≤ result }
     ensures within { result ≤ length script.now }
 {
-    let mut i = from;
-    while i < script.len() {
-        if script[i] == b'\n' {
-            return i;
-        }
-        i += 1;
+    match script[from..].iter().position(|byte| *byte == b'\n') {
+        Some(n) => from + n,
+        None => script.len(),
     }
-    i
 }
 
-// A header with nothing in it, which is refused.
-fn no_header() -> Header {
-    header_of(b"")
-}
-
-// Before the first opening the run is what a refused one gives, and its taking has nothing in it.
-fn at_first() -> Taken {
-    let opened = Run::open(no_header());
-    opened.run.take()
-}
-
+// Before the first opening there is no run, and its taking has nothing in it.
 fn play(rt: &impl Print, script: &[u8]) {
-    let mut held = at_first();
+    let mut held = Run::unopened().take();
     let mut at: u64 = 0;
     let mut from = 0;
     while from < script.len() {
         let to = line_end(script, from);
-        at = std::num::wrapping_add_u64(at, 1);
+        at = at.wrapping_add(1);
         held = called(rt, held, at, &script[from..to]);
         from = to + 1;
     }
 }
 
-// Reads once; answers how many bytes came, none where the input has ended. A read that fails ends it too.
-fn read_once(input: &mut impl Read, block: &mut [u8]) -> usize
-    ensures { result ≤ length block.new }
-{
-    match input.read(block) {
-        Ok(n) => n,
-        Err(_) => 0,
-    }
-}
-
-// Reads until the block is full or the input has ended; answers how many bytes came.
+// Reads until the block is full or the input has ended; answers how many bytes came. A read that fails ends it too.
 fn read_full(input: &mut impl Read, block: &mut [u8]) -> usize
     ensures { result ≤ length block.new }
 {
     let mut done = 0;
     while done < block.len() {
-        let n = read_once(input, &mut block[done..]);
+        let n = input.read(&mut block[done..]).unwrap_or(0);
         if n == 0 {
             return done;
         }
@@ -321,15 +294,9 @@ fn read_full(input: &mut impl Read, block: &mut [u8]) -> usize
 }
 
 // A script has 65,536 bytes at most.
-fn no_script() -> [u8; 65536]
-    ensures { 65536 ≡ length result }
-{
-    [0u8; 65536]
-}
-
 fn main(rt: HostRuntime) {
     let mut input = rt.stdin();
-    let mut script = no_script();
+    let mut script = [0u8; 65_536];
     let n = read_full(&mut input, &mut script);
     play(&rt, &script[..n]);
 }

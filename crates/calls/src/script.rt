@@ -3,12 +3,38 @@
 ghost use Rattle.std.specs.Prelude.{◌≤◌};
 
 use arithmetic::date::Date;
-use arithmetic::whole::{excess, negative_part, positive_part};
-use fields::number::{LongNumber, long_number_of};
+use arithmetic::whole::{negative_part, positive_part};
+use fields::number::long_number_of;
 use fields::split::split_of;
 use vocabulary::direction::Direction;
 use vocabulary::interval::Interval;
 use vocabulary::refusal::Refusal;
+
+// What a number of a refusal stands for.
+const REFUSALS: [Refusal; 22] = [
+    Refusal::WrongMoment,
+    Refusal::BadInterval,
+    Refusal::BadLot,
+    Refusal::BadDate,
+    Refusal::BadQuarters,
+    Refusal::TooManyContracts,
+    Refusal::BadIdentifier,
+    Refusal::IdentifierTaken,
+    Refusal::BadAward,
+    Refusal::AwardsTooHigh,
+    Refusal::BadPrice,
+    Refusal::PriceTooLow,
+    Refusal::BadPower,
+    Refusal::BadLine,
+    Refusal::NoEnd,
+    Refusal::BufferTooShort,
+    Refusal::BadBlockLength,
+    Refusal::BadBlockValue,
+    Refusal::NoFirstSample,
+    Refusal::HoleTooLong,
+    Refusal::SecondsOutOfOrder,
+    Refusal::MisplacedShare,
+];
 
 // No line of a script has more fields than a split keeps.
 pub(crate) fn field(line: &[u8], k: usize) -> &[u8] {
@@ -16,45 +42,23 @@ pub(crate) fn field(line: &[u8], k: usize) -> &[u8] {
 }
 
 pub(crate) fn letter(line: &[u8], k: usize) -> u8 {
-    let text = field(line, k);
-    if text.len() == 0 {
-        return 0;
-    }
-    text[0]
+    field(line, k).first().copied().unwrap_or(0)
 }
 
 pub(crate) fn number(line: &[u8], k: usize) -> i64 {
-    let LongNumber::Value(n) = long_number_of(field(line, k), 18) else {
-        return 0;
-    };
-    n
+    long_number_of(field(line, k), 18).unwrap_or(0)
 }
 
 pub(crate) fn integer(line: &[u8], k: usize) -> i32 {
     let n = number(line, k);
-    if n < -2_147_483_648 {
-        return -2_147_483_648;
-    }
-    if 2_147_483_647 < n {
-        return 2_147_483_647;
-    }
-    n as i32
-}
-
-fn at_most(n: u64, most: u64) -> u64
-    ensures { result ≤ most }
-{
-    if most < n {
-        return most;
-    }
-    n
+    i32::try_from(n).unwrap_or(if n < 0 { i32::MIN } else { i32::MAX })
 }
 
 // A number from 0 to `most`.
 pub(crate) fn count(line: &[u8], k: usize, most: u64) -> u64
     ensures { result ≤ most }
 {
-    at_most(positive_part(number(line, k)), most)
+    positive_part(number(line, k)).min(most)
 }
 
 pub(crate) fn byte(line: &[u8], k: usize) -> u8 {
@@ -74,9 +78,10 @@ pub(crate) fn date(line: &[u8], k: usize) -> Date
 
 pub(crate) fn direction(line: &[u8], k: usize) -> Direction {
     if letter(line, k) == b'N' {
-        return Direction::Negative;
+        Direction::Negative
+    } else {
+        Direction::Positive
     }
-    Direction::Positive
 }
 
 pub(crate) fn interval(line: &[u8], k: usize) -> Interval {
@@ -87,43 +92,25 @@ pub(crate) fn interval(line: &[u8], k: usize) -> Interval {
     }
 }
 
-pub(crate) fn refusal(line: &[u8], k: usize) -> Refusal {
-    match count(line, k, 22) {
-        1 => Refusal::WrongMoment,
-        2 => Refusal::BadInterval,
-        3 => Refusal::BadLot,
-        4 => Refusal::BadDate,
-        5 => Refusal::BadQuarters,
-        6 => Refusal::TooManyContracts,
-        7 => Refusal::BadIdentifier,
-        8 => Refusal::IdentifierTaken,
-        9 => Refusal::BadAward,
-        10 => Refusal::AwardsTooHigh,
-        11 => Refusal::BadPrice,
-        12 => Refusal::PriceTooLow,
-        13 => Refusal::BadPower,
-        14 => Refusal::BadLine,
-        15 => Refusal::NoEnd,
-        16 => Refusal::BufferTooShort,
-        17 => Refusal::BadBlockLength,
-        18 => Refusal::BadBlockValue,
-        19 => Refusal::NoFirstSample,
-        20 => Refusal::HoleTooLong,
-        21 => Refusal::SecondsOutOfOrder,
-        22 => Refusal::MisplacedShare,
-        _ => Refusal::None,
+// The refusal with a number, if there is one.
+pub(crate) fn refusal(line: &[u8], k: usize) -> Result<(), Refusal> {
+    let number = byte(line, k).min(22);
+    match REFUSALS.iter().find(|refusal| refusal.number() == number) {
+        Some(refusal) => Err(*refusal),
+        None => Ok(()),
     }
 }
 
 // How long a buffer a printing call is lent whose text has so many bytes.
-pub(crate) fn lent(line: &[u8], text: u64) -> usize
+pub(crate) fn lent(line: &[u8], text: usize) -> usize
     ensures { result ≤ 16384 }
 {
     let bytes = number(line, 2);
-    let mut base: u64 = 0;
-    if letter(line, 1) == b'T' {
-        base = text;
-    }
-    let longest = std::num::wrapping_add_u64(base, positive_part(bytes));
-    at_most(excess(longest, negative_part(bytes)), 16_384) as usize
+    let base = if letter(line, 1) == b'T' {
+        text as u64
+    } else {
+        0
+    };
+    let longest = base.wrapping_add(positive_part(bytes));
+    longest.saturating_sub(negative_part(bytes)).min(16_384) as usize
 }

@@ -3,21 +3,18 @@
 use mathlib.Core.Path.{◌≡◌, refl, sym, ap, ◌∙◌}
 use mathlib.Core.Bool.{Bool, true, false, cond}
 use mathlib.Core.List.{List, [], ◌∷◌, ◌++◌}
-use mathlib.Core.Logic.{⊎_elim}
 use Prim.Native.Nat.{ℕ, zero, suc, ◌+◌, ◌-◌, ◌%◌, ◌≤◌, ◌<◌}
 use native.Mathlib.Omega.{arith}
-use native.Mathlib.Nat.{eq-zero-or-pos}
 use native.Mathlib.Numerals.{add-one}
 use lib.IntN.{ℤ, pos}
-use lib.ListN.{length, take, drop, get_or, length-set, get_or-append}
-use lib.Seq.{get_or-take, length-take-le, take-length, take_all, ext_get_or}
+use lib.ListN.{length, take, drop, get_or, length-set}
+use lib.Seq.{get_or-take, length-take-le, take-length, ext_get_or}
 use Rattle.arithmetic.specs.Whole.{least_of}
 use Rattle.series.specs.Scan.{ran, outputs}
 use Rattle.series.specs.Places.{Fills, table}
 use Rattle.series.proofs.Scanned.{ran-more, outputs-length, outputs-at}
 use Rattle.series.proofs.Filling.{table-length, table_at}
 use Rattle.vocabulary.specs.declared.interval.Interval.{Interval}
-use Rattle.vocabulary.specs.Interval.{windows_of}
 use Rattle.bounds.specs.declared.side.Side.{Side}
 use Rattle.bounds.specs.declared.side.Side.TheVariants.{Upper, Lower}
 use Rattle.vocabulary.specs.declared.acceptance.Bounds.{Bounds}

@@ -1,116 +1,74 @@
 // The checking program: standard input to standard output. Here blocks are read and fed to the reader, and the one line that it prints is written out.
 #![tactic(auto)]
 
-ghost use Rattle.std.specs.Prelude.{◌≡◌, ◌≤◌, length};
+ghost use Rattle.checking.specs.Checker.{stopped_at};
 
+use judging::kept::Kept;
 use sharefeed::Reader;
-use sheets::Printed;
-use std::io::Read;
+use stream::{Blocks, Part};
+use vocabulary::refusal::Refusal;
 
 // The directions of 100 quarter hours, each with 32 contracts at most.
 const ROWS: usize = 200;
 
 const SHARES: usize = 6_400;
 
-// So much is read at once.
-const BLOCK: usize = 65536;
-
-// The reader after some input, and whether that was all of it.
+// The reader, and the lists that it is lent: it is lent them in each call anew, since a function that lends all three is not proved today.
 #[derive(Clone, Copy)]
-struct Passed {
+struct Checking {
     reader: Reader,
-    ended: bool,
+    gaps: [[u32; 32]; ROWS],
+    surpluses: [u32; ROWS],
+    shares: [i32; SHARES],
 }
 
-// Writes out what was printed; where that fails, it says so.
-fn write(rt: &(impl Print + Eprint), printed: Printed, out: &[u8]) {
-    let Printed::Length(n) = printed else {
-        return;
-    };
-    if n <= out.len() {
-        if rt.write_all(&out[..n]).is_ok() {
-            return;
+impl Blocks for Checking {
+    const NAME: &'static str = "checker";
+
+    ghost stopped = { λ checking. stopped_at checking.reader.checker.stage };
+
+    // what the check says of an input is proved of the reader (crates/verdict); here nothing is said of it
+    ghost through = { λ checking bytes last. Unit };
+
+    fn stopped(&self) -> bool {
+        self.reader.is_stopped()
+    }
+
+    // All of a block is used, and nothing is printed before the end.
+    fn read(&mut self, block: &[u8], _out: &mut [u8]) -> Part {
+        let mut kept = Kept {
+            gaps: &mut self.gaps,
+            surpluses: &mut self.surpluses,
+            shares: &mut self.shares,
+        };
+        self.reader.feed(block, &mut kept);
+        Part {
+            used: block.len(),
+            printed: Ok(0),
         }
     }
-    let _ = eprint!(rt; "checker: the output could not be written\n");
-}
 
-// The block that is read into.
-fn no_block() -> [u8; BLOCK]
-    ensures { 65536 ≡ length result }
-{
-    [0u8; BLOCK]
-}
-
-// Reads once; answers how many bytes came, none where the input has ended. A read that fails ends it too.
-fn read_once(input: &mut impl Read, block: &mut [u8]) -> usize
-    ensures { result ≤ length block.new }
-{
-    match input.read(block) {
-        Ok(n) => n,
-        Err(_) => 0,
-    }
-}
-
-// Reads once, and feeds what came. After a refusal nothing is read any more.
-fn turn(
-    input: &mut impl Read,
-    reader: Reader,
-    gaps: &mut [[u32; 32]],
-    surpluses: &mut [u32],
-    shares: &mut [i32],
-) -> Passed {
-    if reader.is_stopped() {
-        return Passed {
-            reader: reader,
-            ended: true,
+    fn finish(&mut self, out: &mut [u8]) -> Result<usize, Refusal> {
+        let kept = Kept {
+            gaps: &mut self.gaps,
+            surpluses: &mut self.surpluses,
+            shares: &mut self.shares,
         };
+        self.reader.finish(&kept, out)
     }
-    let mut block = no_block();
-    let n = read_once(input, &mut block);
-    if n == 0 {
-        return Passed {
-            reader: reader,
-            ended: true,
-        };
-    }
-    let next = reader.feed(&block[..n], gaps, surpluses, shares);
-    Passed {
-        reader: next,
-        ended: false,
-    }
+
+    ghost at_end = { λ checking. tt };
+
+    ghost at_stop = { λ checking bytes stopped. tt };
 }
 
-// The input ended, or a line was refused: what there is to say.
-fn end(
-    rt: &(impl Print + Eprint),
-    reader: Reader,
-    gaps: &[[u32; 32]],
-    surpluses: &[u32],
-    shares: &[i32],
-) {
-    let mut out = [0u8; 128];
-    let printed = reader.finish(gaps, surpluses, shares, &mut out);
-    write(rt, printed, &out);
-}
-
-// A proved loop has to end, and nothing says that an input does: it counts down from a number that no input uses up.
 fn main(rt: HostRuntime) {
-    let mut input = rt.stdin();
-    let none = [0u32; 32];
-    let mut gaps = [none; ROWS];
-    let mut surpluses = [0u32; ROWS];
-    let mut shares = [0i32; SHARES];
-    let mut reader = Reader::new();
-    let mut turns = u64::MAX;
-    while turns > 0 {
-        let passed = turn(&mut input, reader, &mut gaps, &mut surpluses, &mut shares);
-        let next = passed.reader;
-        reader = next;
-        if passed.ended {
-            end(&rt, reader, &gaps, &surpluses, &shares);
-            return;
-        }
-        turns -= 1;
-    }
+    let mut out = [0u8; 128];
+    let mut checking = Checking {
+        reader: Reader::new(),
+        gaps: [[0u32; 32]; ROWS],
+        surpluses: [0u32; ROWS],
+        shares: [0i32; SHARES],
+    };
+    checking.run(&rt, &mut rt.stdin(), &mut out);
 }

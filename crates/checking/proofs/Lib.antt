@@ -1,2 +1,1 @@
-pub mod CheckerLaws
 pub mod AnswerLaws

@@ -1,20 +1,17 @@
 -- What each line makes of the checker and of what it keeps, and what is printed at the input's end (docs/RULES.md, 'Checking shares').
 -- Up to E a line is put to the run as the settling program puts it (crates/text/specs/Desk.antt); nothing is printed for it.
-use Rattle.std.specs.Prelude.{◌≡◌, ℕ, ◌+◌, ◌%◌, ◌^◌, ◌≤◌, Bool, true, false, cond, List, length, pos, ◌==◌}
+use Rattle.std.specs.Prelude.{◌≡◌, ℕ, ◌+◌, ◌%◌, ◌^◌, ◌≤◌, Bool, true, false, cond, List, length, Ok, Err, ◌==◌}
 use Rattle.vocabulary.specs.declared.refusal.Refusal.{Refusal}
 use Rattle.vocabulary.specs.declared.refusal.Refusal.TheVariants.{WrongMoment, BadLine, NoEnd, MisplacedShare}
-use Rattle.vocabulary.specs.Refusals.{accepted}
+use Rattle.vocabulary.specs.Refusals.{Ruling, accepted}
 use Rattle.vocabulary.specs.declared.header.Header.{Header}
-use Rattle.vocabulary.specs.declared.header.Lot.TheVariants.{Kw}
 use Rattle.vocabulary.specs.declared.sample.Sample.{Sample}
 use Rattle.settlement.specs.declared.run.Run.{Run}
 use Rattle.settlement.specs.declared.run.Answer.{Answer}
-use Rattle.settlement.specs.declared.run.Taken.{Taken}
-use Rattle.settlement.specs.Run.{opened_of, with_bounds_of, with_setpoint_of, contracted_of, sampled_of, taken_of, ended_of}
+use Rattle.settlement.specs.Run.{no_run, opened_of, with_bounds_of, with_setpoint_of, contracted_of, sampled_of, taken_of, ended_of}
 use Rattle.sheets.specs.Sheet.{refusal_text}
 use Rattle.sheets.specs.Verdict.{verdict_text}
-use Rattle.sheets.specs.Buffer.{print_answer, print_into}
-use Rattle.sheets.specs.declared.Printed.{Printed}
+use Rattle.sheets.specs.Buffer.{Printed, print_answer, print_into}
 use Rattle.reading.specs.Line.{identifier_of}
 use Rattle.reading.specs.Share.{whose_of, asked_of}
 use Rattle.reading.specs.declared.Line.{Line}
@@ -40,19 +37,23 @@ pub record Standing : Type 0 where
 abbrev pub standing : Checker → Kept → Standing
 standing checker kept = record { checker = checker; kept = kept }
 
--- before the first line: what stands where an opening was refused
+-- before the first line: what stands where nothing was opened
 unfoldable pub empty_checker : Checker
-empty_checker =
-    checker_at Empty
-    (opened_of (record { date = record { year = 0; month = 0; day = 0 }; interval = pos 0; lot = Kw (pos 0); quarters = pos 0 })).run
+empty_checker = checker_at Empty no_run
 
 -- the first refusal, at the line of this number: nothing is read any more
 unfoldable pub stopped_by : Run → ℕ → Refusal → Checker
 stopped_by run number refusal = checker_at (Stopped (record { line = number; refusal = refusal })) run
 
 -- what a call makes of a line: its refusal, or what follows
-abbrev pub unless : Run → ℕ → Refusal → Checker → Checker
-unless run number refusal next = cond (accepted refusal) next (stopped_by run number refusal)
+abbrev pub unless : Run → ℕ → Ruling → Checker → Checker
+unless run number (Ok done) next = next
+unless run number (Err refusal) next = stopped_by run number refusal
+
+-- and of what is kept
+abbrev pub turn_unless : Kept → Run → ℕ → Ruling → Standing → Standing
+turn_unless kept run number (Ok done) next = next
+turn_unless kept run number (Err refusal) next = standing (stopped_by run number refusal) kept
 
 unfoldable pub opened_by : Run → ℕ → Header → Checker
 opened_by run number header = unless run number (opened_of header).refusal (checker_at Open (opened_of header).run)
@@ -76,21 +77,18 @@ quarter_turn kept run =
 
 unfoldable pub sample_turn : Kept → Run → ℕ → Sample → Standing
 sample_turn kept run number sample =
-    cond (accepted (sampled_of run sample.setpoint sample.actual).refusal)
+    turn_unless kept run number (sampled_of run sample.setpoint sample.actual).refusal
     (quarter_turn kept (sampled_of run sample.setpoint sample.actual).run)
-    (standing (stopped_by run number (sampled_of run sample.setpoint sample.actual).refusal) kept)
 
 -- ---- a share
 
 -- after n U lines
-abbrev pub ground_of : Run → ℕ → Share → List ℕ → Refusal
+abbrev pub ground_of : Run → ℕ → Share → List ℕ → Ruling
 ground_of run n share identifier = share_ground run.books (ended_of run).quarters n share identifier
 
 unfoldable pub share_turn : Kept → Run → ℕ → ℕ → Share → List ℕ → Standing
 share_turn kept run number n share identifier =
-    cond (accepted (ground_of run n share identifier))
-    (standing (checker_at (Ended (n + 1)) run) (with_share kept n share.kwh))
-    (standing (stopped_by run number (ground_of run n share identifier)) kept)
+    turn_unless kept run number (ground_of run n share identifier) (standing (checker_at (Ended (n + 1)) run) (with_share kept n share.kwh))
 
 -- ---- any line
 
@@ -105,7 +103,7 @@ first_by run number (A.Settling L.End) = stopped_by run number WrongMoment
 first_by run number (A.Settling L.Malformed) = stopped_by run number BadLine
 first_by run number (A.Share share) = stopped_by run number WrongMoment
 
--- after it, a header is 1, and a share comes too early
+-- after it, a header is 1, and a share comes too early: it is always refused
 abbrev pub next_turn : Kept → Run → ℕ → List ℕ → Asked → Standing
 next_turn kept run number line (A.Settling (L.Header header)) = standing (stopped_by run number WrongMoment) kept
 next_turn kept run number line (A.Settling (L.Bounds bounds)) = standing (answered_by run number (with_bounds_of run bounds)) kept
@@ -114,7 +112,7 @@ next_turn kept run number line (A.Settling (L.Contract contract)) = standing (an
 next_turn kept run number line (A.Settling (L.Sample sample)) = sample_turn kept run number sample
 next_turn kept run number line (A.Settling L.End) = standing (ended_by run number) kept
 next_turn kept run number line (A.Settling L.Malformed) = standing (stopped_by run number BadLine) kept
-next_turn kept run number line (A.Share share) = standing (stopped_by run number (early_ground run (whose_of line))) kept
+next_turn kept run number line (A.Share share) = standing (unless run number (early_ground run (whose_of line)) (checker_at Open run)) kept
 
 -- after E any line of a settling is 1
 abbrev pub late_ground : Line → Refusal
@@ -155,13 +153,13 @@ unfoldable pub ruled_text : Run → Kept → ℕ → ℕ → List ℕ
 ruled_text run kept number n =
     cond (wanted_in run.books (ended_of run).quarters == n)
     (verdict_text (judged_of run.books kept (ended_of run).quarters))
-    (refusal_text number MisplacedShare)
+    (refusal_text number (Err MisplacedShare))
 
 abbrev pub finish_at : Stage → Standing → ℕ → List ℕ
-finish_at Empty s number = refusal_text number NoEnd
-finish_at Open s number = refusal_text number NoEnd
+finish_at Empty s number = refusal_text number (Err NoEnd)
+finish_at Open s number = refusal_text number (Err NoEnd)
 finish_at (Ended n) s number = ruled_text s.checker.run s.kept number n
-finish_at (Stopped fault) s number = refusal_text fault.line fault.refusal
+finish_at (Stopped fault) s number = refusal_text fault.line (Err fault.refusal)
 
 -- WHAT IS PRINTED, after so many complete lines: 15 and a U line that is missing have "the number of complete lines plus 1"
 unfoldable pub finish_text : Standing → ℕ → List ℕ

@@ -1,8 +1,8 @@
-// What the run answers to a line, and what follows. A refused call hands back the run that came in, so that one path serves for both.
+// What the run answers to a line. A refused call hands back the run that came in, so that one path serves for both.
 ghost use Rattle.std.specs.Prelude.{◌≡◌};
 ghost use Rattle.reading.specs.Share.{asked_of};
-ghost use Rattle.settlement.specs.Run.{ended_of};
-ghost use Rattle.checking.specs.Answers.{opening_line, opening_of, answering, line_answer, answer_to, follows_line, follows_of};
+ghost use Rattle.checking.specs.Checker.{late_ground};
+ghost use Rattle.checking.specs.Answers.{opening_line, opening_of, answering, line_answer, answer_to};
 
 use judging::wanted::early_refusal;
 use reading::share::{Asked, read_asked, whose};
@@ -11,73 +11,52 @@ use settlement::run::{Answer, Run};
 use vocabulary::header::Header;
 use vocabulary::refusal::Refusal;
 
-// What a line asks for before the header.
-#[derive(Clone, Copy)]
-pub enum Opening {
-    Header(Header),
-    Refused(Refusal),
+// Where a line of an input that is settled has no place, it comes at the wrong moment.
+pub(crate) fn out_of_place(said: Line) -> Refusal
+    ensures { result ≡ late_ground said }
+{
+    match said {
+        Line::Malformed => Refusal::BadLine,
+        _ => Refusal::WrongMoment,
+    }
 }
 
-// What follows a line that was taken: the quarter hour may be full, or the run has ended.
-#[derive(Clone, Copy)]
-pub enum Follows {
-    Quarter,
-    End,
-    Nothing,
-}
-
-fn opening_line(said: Line) -> Opening
+fn opening_line(said: Line) -> Result<Header, Refusal>
     ensures { result ≡ opening_line said }
 {
     match said {
-        Line::Header(header) => return Opening::Header(header),
-        Line::Bounds(_) => return Opening::Refused(Refusal::WrongMoment),
-        Line::Setpoint(_) => return Opening::Refused(Refusal::WrongMoment),
-        Line::Contract(_) => return Opening::Refused(Refusal::WrongMoment),
-        Line::Sample(_) => return Opening::Refused(Refusal::WrongMoment),
-        Line::End => return Opening::Refused(Refusal::WrongMoment),
-        Line::Malformed => return Opening::Refused(Refusal::BadLine),
+        Line::Header(header) => Ok(header),
+        _ => Err(out_of_place(said)),
     }
 }
 
 // Before the header any other line comes too early, and a share is one like any other there.
-pub(crate) fn opens(line: &[u8]) -> Opening
+pub(crate) fn opens(line: &[u8]) -> Result<Header, Refusal>
     ensures { result ≡ opening_of (asked_of line.now) }
 {
-    let asked = read_asked(line);
-    match asked {
-        Asked::Settling(said) => return opening_line(said),
-        Asked::Share(_) => return Opening::Refused(Refusal::WrongMoment),
+    match read_asked(line) {
+        Asked::Settling(said) => opening_line(said),
+        Asked::Share(_) => Err(Refusal::WrongMoment),
     }
 }
 
-fn answered(run: Run, refusal: Refusal) -> Answer
+fn answered(run: Run, refusal: Result<(), Refusal>) -> Answer
     ensures { result ≡ answering run refusal }
 {
-    Answer {
-        run: run,
-        refusal: refusal,
-    }
-}
-
-fn end_refusal(run: Run) -> Refusal
-    ensures { result ≡ (ended_of run).refusal }
-{
-    let ended = run.end();
-    ended.refusal
+    Answer { run, refusal }
 }
 
 fn line_answer(run: Run, said: Line, line: &[u8]) -> Answer
     ensures { result ≡ line_answer run line.now said }
 {
     match said {
-        Line::Header(_) => return answered(run, Refusal::WrongMoment),
-        Line::Bounds(bounds) => return run.bounds(bounds),
-        Line::Setpoint(setpoint) => return run.setpoint(setpoint),
-        Line::Contract(contract) => return run.contract(contract, identifier(line)),
-        Line::Sample(sample) => return run.sample(sample),
-        Line::End => return answered(run, end_refusal(run)),
-        Line::Malformed => return answered(run, Refusal::BadLine),
+        Line::Header(_) => answered(run, Err(Refusal::WrongMoment)),
+        Line::Bounds(bounds) => run.bounds(bounds),
+        Line::Setpoint(setpoint) => run.setpoint(setpoint),
+        Line::Contract(contract) => run.contract(contract, identifier(line)),
+        Line::Sample(sample) => run.sample(sample),
+        Line::End => answered(run, run.end().refusal),
+        Line::Malformed => answered(run, Err(Refusal::BadLine)),
     }
 }
 
@@ -86,31 +65,7 @@ pub(crate) fn answer_to(run: Run, asked: Asked, line: &[u8]) -> Answer
     ensures { result ≡ answer_to run line.now asked }
 {
     match asked {
-        Asked::Settling(said) => return line_answer(run, said, line),
-        Asked::Share(_) => return answered(run, early_refusal(run, whose(line))),
-    }
-}
-
-fn follows_line(said: Line) -> Follows
-    ensures { result ≡ follows_line said }
-{
-    match said {
-        Line::Header(_) => return Follows::Nothing,
-        Line::Bounds(_) => return Follows::Nothing,
-        Line::Setpoint(_) => return Follows::Nothing,
-        Line::Contract(_) => return Follows::Nothing,
-        Line::Sample(_) => return Follows::Quarter,
-        Line::End => return Follows::End,
-        Line::Malformed => return Follows::Nothing,
-    }
-}
-
-// What follows a line that an open run took.
-pub(crate) fn what_follows(asked: Asked) -> Follows
-    ensures { result ≡ follows_of asked }
-{
-    match asked {
-        Asked::Settling(said) => return follows_line(said),
-        Asked::Share(_) => return Follows::Nothing,
+        Asked::Settling(said) => line_answer(run, said, line),
+        Asked::Share(_) => answered(run, early_refusal(run, whose(line))),
     }
 }

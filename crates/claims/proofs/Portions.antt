@@ -1,9 +1,8 @@
 -- The sums of a direction fit 64 bits, and the energies by them are those in the words of the rules: the slices and the rest of a quantity make the
 -- pool's energy of it, and what is short of the inner bound is what it has above what is kept.
 -- Assumes nothing.
-use Rattle.std.proofs.Common.{◌≡◌, ℕ, zero, suc, ◌+◌, ◌-◌, ◌*◌, ◌%◌, ◌^◌, ◌<◌, ◌≤◌, List, [], ◌∷◌, ◌++◌, length, get_or, take, drop, sym, refl, ap, ◌∙◌, mod-eq_of_lt, add-one, arith}
-use Rattle.arithmetic.specs.Whole.{least_of, most_of}
-use Rattle.arithmetic.specs.Energy.{kwh}
+use Rattle.std.proofs.Common.{◌≡◌, ℕ, suc, ◌+◌, ◌%◌, ◌^◌, ◌≤◌, List, [], ◌∷◌, ◌++◌, length, drop, refl, ◌∙◌, mod-eq_of_lt, add-one, arith}
+use Rattle.arithmetic.specs.Whole.{least_of}
 use Rattle.series.specs.Scan.{outputs, each}
 use Rattle.series.specs.Sums.{over_of, sum_of}
 use Rattle.series.specs.Slices.{both_of}
@@ -17,7 +16,7 @@ use Rattle.vocabulary.specs.declared.direction.Direction.{Direction}
 use Rattle.values.specs.declared.part.Part.{Part}
 use Rattle.values.specs.declared.value.Quantity.{Quantity}
 use Rattle.values.specs.declared.value.Quantity.TheVariants.{Setpoint, Actual, Acceptance, Surplus, Shortfall, UnderDelivery, Inner, Floor, Covered, Kept}
-use Rattle.values.specs.Part.{amount_of, covered_of}
+use Rattle.values.specs.Part.{amount_of}
 use Rattle.contracts.specs.declared.terms.Terms.{Terms}
 use Rattle.contracts.specs.Terms.{upper_of, limits_of}
 use Rattle.claims.specs.Powers.{Samples, next, powers_of}

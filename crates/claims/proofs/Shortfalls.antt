@@ -5,7 +5,7 @@ use Rattle.std.proofs.Common.{◌≡◌, ℕ, ◌+◌, ◌-◌, ◌^◌, ◌<◌
 use Rattle.series.specs.Sums.{over_of, sum_of}
 use Rattle.series.specs.Slices.{slice_of}
 use Rattle.series.specs.Scan.{outputs, each}
-use Rattle.series.specs.Cuts.{Cut, sliced_in, cuts_of, above_of, last_of, no_sums, pieces_of}
+use Rattle.series.specs.Cuts.{Cut, sliced_in, cuts_of, last_of, no_sums, pieces_of}
 use Rattle.series.proofs.Whole.{pieces_exact}
 use Rattle.values.specs.declared.part.Part.{Part}
 use Rattle.values.specs.declared.value.Quantity.{Quantity}

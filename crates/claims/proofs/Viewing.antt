@@ -1,13 +1,13 @@
 -- An idle part adds nothing to a sum or a slice of any quantity but the actual, so it can be left out; and how the others are written down, sample by sample.
 -- Assumes nothing.
-use Rattle.std.proofs.Common.{◌≡◌, ℕ, zero, suc, ◌+◌, ◌-◌, ◌*◌, ◌%◌, ◌^◌, ◌<◌, ◌≤◌, Bool, true, false, cond, ◌&&◌, ◌||◌, eqb, ltb, List, [], ◌∷◌, ◌++◌, length, get_or, take, set, pos, sym, refl, ap, ◌∙◌, true≢false, append-nil, add-zero, zero-add, add-one, arith, length-append, length-set, take_all, take-suc-set, w32, SFits, below_none, below_more, ltb-false, ltb-true, le-ltb, lt-ltb, eq-eqb, eqb-true}
+use Rattle.std.proofs.Common.{◌≡◌, ℕ, zero, suc, ◌+◌, ◌-◌, ◌*◌, ◌%◌, ◌^◌, ◌<◌, ◌≤◌, Bool, true, false, cond, ◌&&◌, ◌||◌, eqb, ltb, List, [], ◌∷◌, ◌++◌, length, get_or, take, set, pos, sym, refl, ◌∙◌, true≢false, append-nil, add-zero, zero-add, add-one, arith, length-append, length-set, take_all, take-suc-set, w32, SFits, below_none, below_more, ltb-false, ltb-true, le-ltb, lt-ltb, eq-eqb, eqb-true}
 use native.Mathlib.Nat.{mod-add-mod}
 use lib.Seq.{take-set-le}
 use Rattle.arithmetic.specs.Whole.{least_of, most_of}
 use Rattle.arithmetic.proofs.Booleans.{both}
 use Rattle.series.specs.Sums.{over_of, sum_of}
 use Rattle.series.specs.Slices.{slice_of}
-use Rattle.series.specs.Scan.{outputs, each}
+use Rattle.series.specs.Scan.{each}
 use Rattle.series.specs.Cuts.{Cut, cuts_of, last_of, sum_held, pieces_of}
 use Rattle.series.proofs.Each.{each-end, each_same}
 use Rattle.series.proofs.Scanned.{outputs-length}

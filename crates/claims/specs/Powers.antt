@@ -6,6 +6,7 @@ use Rattle.vocabulary.specs.declared.interval.Interval.{Interval}
 use Rattle.channel.specs.Start.{Start}
 use Rattle.channel.specs.Backward.{oga_of, uga_of}
 use Rattle.vocabulary.specs.declared.direction.Direction.{Direction}
+use Rattle.claims.specs.declared.view.Samples.{Samples as Lent}
 use Rattle.values.specs.declared.value.Quantity.{Quantity}
 use Rattle.values.specs.Values.{value_of, seen, sample_of}
 
@@ -18,6 +19,10 @@ pub record Samples : Type 0 where
 
 abbrev pub samples : List ℤ → List ℤ → List ℤ → List ℤ → Samples
 samples setpoints actuals ogas ugas = record { setpoints = setpoints; actuals = actuals; ogas = ogas; ugas = ugas }
+
+-- those that are lent
+abbrev pub lent : Lent → Samples
+lent x = samples x.setpoints.now x.actuals.now x.ogas.now x.ugas.now
 
 -- the place after a place
 abbrev pub next : {X : Type 0} → ℕ → X → ℕ

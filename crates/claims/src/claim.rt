@@ -1,7 +1,5 @@
 // A contract's claim of a quarter hour: its energies before any surplus is handed out, and the gap that a surplus may fill.
-ghost use Rattle.std.specs.Prelude.{◌≡◌, ◌-◌, ◌≤◌, ◌++◌, take, drop};
-ghost use Rattle.arithmetic.specs.Energy.{kwh};
-ghost use Rattle.arithmetic.specs.Whole.{least_of};
+ghost use Rattle.std.specs.Prelude.{◌≡◌, ◌≤◌, ◌++◌, take, drop};
 ghost use Rattle.claims.specs.Claims.{claim_from};
 ghost use Rattle.claims.specs.Blank.{no_claims};
 ghost use Rattle.claims.specs.Views.{joined_of};
@@ -28,46 +26,28 @@ pub struct Rest {
     pub acceptance: Kwh,
 }
 
-// What one energy has above another, 0 where it has nothing.
-fn less(energy: Kwh, other: Kwh) -> Kwh
-    ensures { result ≡ kwh (energy.0 - other.0) }
-{
-    if energy.0 <= other.0 {
-        return Kwh(0);
-    }
-    Kwh(energy.0 - other.0)
-}
-
-fn smaller(energy: Kwh, other: Kwh) -> Kwh
-    ensures { result ≡ kwh (least_of energy.0 other.0) }
-{
-    if other.0 < energy.0 {
-        return other;
-    }
-    energy
-}
-
 impl Claim {
     // By a contract's energies. The cap is never below 0, since the tolerance never asks for more than the setpoint.
     fn of(setpoint: Kwh, actual: Kwh, acceptance: Kwh, floor: Kwh, shortfall: Kwh) -> Claim
         ensures { result ≡ claim_from setpoint actual acceptance floor shortfall }
     {
-        let under_delivery = less(floor, acceptance);
-        let cap = less(setpoint, under_delivery);
-        let capped = smaller(cap, acceptance);
-        let gap = smaller(less(cap, capped), shortfall);
+        let under_delivery = Kwh(floor.0.saturating_sub(acceptance.0));
+        let cap = setpoint.0.saturating_sub(under_delivery.0);
+        let capped = Kwh(cap.min(acceptance.0));
+        let gap = Kwh(cap.saturating_sub(capped.0).min(shortfall.0));
         Claim {
-            setpoint: setpoint,
-            actual: actual,
-            acceptance: acceptance,
-            shortfall: shortfall,
-            under_delivery: under_delivery,
-            capped: capped,
-            gap: gap,
+            setpoint,
+            actual,
+            acceptance,
+            shortfall,
+            under_delivery,
+            capped,
+            gap,
         }
     }
 }
 
+// What stands in places that have no contract.
 fn no_claims() -> [Claim; 32]
     ensures { result ≡ no_claims }
 {
@@ -85,6 +65,7 @@ fn no_claims() -> [Claim; 32]
 }
 
 // The claims by the energies of the first `count` contracts.
+// Five arrays and a count stay: a contract's claim is made at one place of all of them, and the definition takes them so.
 pub(crate) fn joined(
     setpoints: [Kwh; 32],
     actuals: [Kwh; 32],
@@ -97,8 +78,7 @@ pub(crate) fn joined(
     ensures { result ≡ joined_of actuals acceptances floors shortfalls (take count setpoints) ++ drop count no_claims }
 {
     let mut out = no_claims();
-    let mut k = 0;
-    while k < count {
+    for k in 0..count {
         out[k] = Claim::of(
             setpoints[k],
             actuals[k],
@@ -106,7 +86,6 @@ pub(crate) fn joined(
             floors[k],
             shortfalls[k],
         );
-        k += 1;
     }
     out
 }

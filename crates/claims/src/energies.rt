@@ -4,12 +4,10 @@ ghost use Rattle.series.specs.Sums.{sum_of};
 ghost use Rattle.series.specs.Scan.{each};
 ghost use Rattle.series.specs.Cuts.{pieces_of};
 ghost use Rattle.claims.specs.Views.{delivered_of, sums_by, energy_held, less_of, short_of, whole_of};
-ghost use Rattle.claims.specs.Blank.{no_energies};
-ghost use Rattle.claims.specs.Room.{Roomy, Fits};
+ghost use Rattle.claims.specs.Room.{Fits};
 
-use crate::view::{Seen, delivered};
+use crate::view::{Seen, Series, delivered};
 use arithmetic::energy::{Kwh, energy};
-use arithmetic::whole::excess;
 use series::cutting::{Pieces, cut};
 use vocabulary::direction::Direction;
 
@@ -25,13 +23,7 @@ pub struct Sums {
     pub under_delivery: u64,
 }
 
-fn no_energies() -> [Kwh; 32]
-    ensures { result ≡ no_energies }
-{
-    [Kwh(0); 32]
-}
-
-// The pieces of the first n powers of a series.
+// The pieces of the first n powers of a series. The limits go with their count, as `cut` takes them.
 fn pieces(series: &[u64], n: usize, upper: [u64; 32], count: usize) -> Pieces
     requires { n ≤ length series.now }
     ensures { result ≡ pieces_of (take count upper) (take n series.now) }
@@ -59,10 +51,8 @@ fn excesses(sums: [u64; 32], others: [u64; 32]) -> [u64; 32]
     ensures { result ≡ less_of sums others }
 {
     let mut out = sums;
-    let mut k: usize = 0;
-    while k < 32 {
-        out[k] = excess(sums[k], others[k]);
-        k += 1;
+    for k in 0..32 {
+        out[k] = sums[k].saturating_sub(others[k]);
     }
     out
 }
@@ -75,11 +65,9 @@ fn pieces_short(inner: &[u64], kept: &[u64], n: usize, upper: [u64; 32], count: 
 {
     let all = pieces(inner, n, upper, count);
     let part = pieces(kept, n, upper, count);
-    let sums = all.sums;
-    let others = part.sums;
     Pieces {
-        sums: excesses(sums, others),
-        rest: excess(all.rest, part.rest),
+        sums: excesses(all.sums, part.sums),
+        rest: all.rest.saturating_sub(part.rest),
     }
 }
 
@@ -89,26 +77,21 @@ pub(crate) fn summed(
     direction: Direction,
     actuals: &[i32],
     seen: Seen,
-    asked: &mut [u64],
-    accepted: &[u64],
-    required: &[u64],
-    inner: &[u64],
-    kept: &[u64],
+    series: &mut Series,
     upper: [u64; 32],
     count: usize,
 ) -> Sums
-    requires { Roomy asked.old accepted.now required.now inner.now kept.now × ((seen.count ≤ 900) × ((seen.short ≤ 900) × (length actuals.now ≤ 900))) }
-    ensures { (result ≡ sums_by direction (take count upper) seen actuals.now asked.old accepted.now required.now
-        inner.now kept.now)
-        × (length asked.new ≡ length asked.old) }
+    requires { (seen.count ≤ 900) × (seen.short ≤ 900) × (length actuals.now ≤ 900) }
+    ensures { result ≡ sums_by direction (take count upper) seen actuals.now series.old.asked series.old.accepted series.old.required
+        series.old.inner series.old.kept }
 {
     let n = seen.count;
     Sums {
-        setpoint: pieces(asked, n, upper, count),
-        actual: pieces_delivered(direction, actuals, asked, upper, count),
-        acceptance: pieces(accepted, n, upper, count),
-        floor: pieces(required, n, upper, count),
-        shortfall: pieces_short(inner, kept, seen.short, upper, count),
+        setpoint: pieces(&series.asked, n, upper, count),
+        actual: pieces_delivered(direction, actuals, &mut series.asked, upper, count),
+        acceptance: pieces(&series.accepted, n, upper, count),
+        floor: pieces(&series.required, n, upper, count),
+        shortfall: pieces_short(&series.inner, &series.kept, seen.short, upper, count),
         surplus: seen.surplus,
         under_delivery: seen.under_delivery,
     }
@@ -125,16 +108,14 @@ fn energy_held(sum: u64, seconds: u64) -> Kwh
     energy(seconds * sum)
 }
 
-// The energy of each sum.
+// The energy of each sum. No `map`: each sum needs its own bound.
 fn energies(sums: [u64; 32], seconds: u64) -> [Kwh; 32]
     requires { (k : ℕ) → seconds * slice_index sums k < 2 ^ 64 }
     ensures { result ≡ each (energy_held seconds) sums }
 {
-    let mut out = no_energies();
-    let mut k = 0;
-    while k < 32 {
+    let mut out = [Kwh(0); 32];
+    for k in 0..32 {
         out[k] = energy_held(sums[k], seconds);
-        k += 1;
     }
     out
 }
@@ -144,13 +125,7 @@ fn total(sums: [u64; 32], rest: u64) -> u64
     requires { sum_of sums + rest < 2 ^ 64 }
     ensures { result ≡ sum_of sums + rest }
 {
-    let mut sum = rest;
-    let mut k: usize = 0;
-    while k < 32 {
-        sum += sums[k];
-        k += 1;
-    }
-    sum
+    rest + sums.iter().sum::<u64>()
 }
 
 // The energies of the slices of a quantity, by its pieces.
@@ -158,8 +133,7 @@ pub(crate) fn sliced(pieces: Pieces, seconds: u64) -> [Kwh; 32]
     requires { Fits seconds pieces }
     ensures { result ≡ each (energy_held seconds) pieces.sums }
 {
-    let sums = pieces.sums;
-    energies(sums, seconds)
+    energies(pieces.sums, seconds)
 }
 
 // The energy of all of it.
@@ -167,6 +141,5 @@ pub(crate) fn whole(pieces: Pieces, seconds: u64) -> Kwh
     requires { Fits seconds pieces }
     ensures { result ≡ energy_held seconds (whole_of pieces) }
 {
-    let sums = pieces.sums;
-    energy(seconds * total(sums, pieces.rest))
+    energy(seconds * total(pieces.sums, pieces.rest))
 }

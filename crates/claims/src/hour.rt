@@ -1,14 +1,14 @@
 // The energies of a quarter hour in both directions, and the channel after it.
 ghost use Rattle.std.specs.Prelude.{◌≡◌, ◌≤◌, length};
 ghost use Rattle.contracts.specs.Terms.{terms_in};
-ghost use Rattle.claims.specs.Powers.{samples, powers_of};
+ghost use Rattle.claims.specs.Powers.{lent, powers_of};
 ghost use Rattle.claims.specs.Claims.{energies_of, measured_held};
 ghost use Rattle.claims.specs.Views.{rest_by, claims_by, energies_by, measured_in};
-ghost use Rattle.claims.specs.Room.{AllFit, Timely, Roomy};
+ghost use Rattle.claims.specs.Room.{AllFit, Timely};
 
 use crate::claim::{Claim, Rest, joined};
 use crate::energies::{Sums, sliced, summed, whole};
-use crate::view::viewed;
+use crate::view::{Samples, Series, viewed};
 use arithmetic::energy::{Kwh, energy};
 use channel::Channel;
 use contracts::book::Book;
@@ -36,18 +36,15 @@ pub struct Measured {
     pub negative: Energies,
 }
 
-// What no contract takes, by the sums of a direction.
+// What no contract takes, by the sums of a direction. Sums and seconds stay two: the definitions of the energies take them apart.
 fn rest(sums: Sums, seconds: u64) -> Rest
     requires { AllFit seconds sums }
     ensures { result ≡ rest_by seconds sums }
 {
-    let setpoint = sums.setpoint;
-    let actual = sums.actual;
-    let acceptance = sums.acceptance;
     Rest {
-        setpoint: energy(seconds * setpoint.rest),
-        actual: energy(seconds * actual.rest),
-        acceptance: energy(seconds * acceptance.rest),
+        setpoint: energy(seconds * sums.setpoint.rest),
+        actual: energy(seconds * sums.actual.rest),
+        acceptance: energy(seconds * sums.acceptance.rest),
     }
 }
 
@@ -83,103 +80,44 @@ fn energies_by(sums: Sums, seconds: u64, count: usize) -> Energies
     }
 }
 
-fn no_powers() -> [u64; 900]
-    ensures { length result ≡ 900 }
-{
-    [0u64; 900]
-}
-
-// The energies of the samples in one direction, for the contracts of a list. The series are lent, since making them takes longer than a good part of
-// what is done with them.
+// The energies of the samples in one direction, for the contracts of a list. The series are lent.
 fn listed(
     direction: Direction,
-    setpoints: &[i32],
-    actuals: &[i32],
-    ogas: &[i64],
-    ugas: &[i64],
-    asked: &mut [u64],
-    accepted: &mut [u64],
-    required: &mut [u64],
-    inner: &mut [u64],
-    kept: &mut [u64],
+    samples: Samples,
+    series: &mut Series,
     seconds: u64,
     book: Book,
 ) -> Energies
-    requires { Timely (samples setpoints.now actuals.now ogas.now ugas.now) seconds × Roomy asked.old accepted.old required.old inner.old kept.old }
-    ensures { (result ≡ energies_of seconds (powers_of direction (samples setpoints.now actuals.now ogas.now ugas.now)) (terms_in book))
-        × Roomy asked.new accepted.new required.new inner.new kept.new }
+    requires { Timely (lent samples) seconds }
+    ensures { result ≡ energies_of seconds (powers_of direction (lent samples.entry)) (terms_in book) }
 {
     let upper = limits(book.terms());
     let count = book.held();
-    let seen = viewed(
-        direction, setpoints, actuals, ogas, ugas, asked, accepted, required, inner, kept,
-    );
-    let sums = summed(
-        direction, actuals, seen, asked, accepted, required, inner, kept, upper, count,
-    );
+    let seen = viewed(direction, samples, series);
+    let sums = summed(direction, samples.actuals, seen, series, upper, count);
     energies_by(sums, seconds, count)
 }
 
 // Those of both directions, one after the other by the same series.
-fn both(
-    after: Channel,
-    setpoints: &[i32],
-    actuals: &[i32],
-    ogas: &[i64],
-    ugas: &[i64],
-    seconds: u64,
-    positive: Book,
-    negative: Book,
-) -> Measured
-    requires { Timely (samples setpoints.now actuals.now ogas.now ugas.now) seconds }
-    ensures { result ≡ measured_in after seconds (samples setpoints.now actuals.now ogas.now ugas.now) (terms_in positive) (terms_in negative) }
+fn both(after: Channel, samples: Samples, seconds: u64, positive: Book, negative: Book) -> Measured
+    requires { Timely (lent samples) seconds }
+    ensures { result ≡ measured_in after seconds (lent samples.entry) (terms_in positive) (terms_in negative) }
 {
-    let blank = no_powers();
-    let mut asked = blank;
-    let mut accepted = blank;
-    let mut required = blank;
-    let mut inner = blank;
-    let mut kept = blank;
-    let above = listed(
-        Direction::Positive,
-        setpoints,
-        actuals,
-        ogas,
-        ugas,
-        &mut asked,
-        &mut accepted,
-        &mut required,
-        &mut inner,
-        &mut kept,
-        seconds,
-        positive,
-    );
-    let below = listed(
-        Direction::Negative,
-        setpoints,
-        actuals,
-        ogas,
-        ugas,
-        &mut asked,
-        &mut accepted,
-        &mut required,
-        &mut inner,
-        &mut kept,
-        seconds,
-        negative,
-    );
+    let blank = [0u64; 900];
+    let mut series = Series {
+        asked: blank,
+        accepted: blank,
+        required: blank,
+        inner: blank,
+        kept: blank,
+    };
+    let above = listed(Direction::Positive, samples, &mut series, seconds, positive);
+    let below = listed(Direction::Negative, samples, &mut series, seconds, negative);
     Measured {
         channel: after,
         positive: above,
         negative: below,
     }
-}
-
-// No bound yet of any sample.
-fn no_bounds() -> [i64; 900]
-    ensures { length result ≡ 900 }
-{
-    [0i64; 900]
 }
 
 // The quarter hour that a run holds: as many samples from the start of the arrays as the channel's interval has.
@@ -192,20 +130,21 @@ pub fn measure(
 ) -> Measured
     ensures { result ≡ measured_held channel setpoints actuals positive negative }
 {
-    let interval = channel.interval();
-    let windows = interval.windows();
+    let windows = channel.interval().windows();
     let n = windows.samples;
-    let seconds = windows.seconds as u64;
-    let mut ogas = no_bounds();
-    let mut ugas = ogas;
+    let mut ogas = [0i64; 900];
+    let mut ugas = [0i64; 900];
     let after = channel.sized().along(setpoints, n, &mut ogas, &mut ugas);
+    let samples = Samples {
+        setpoints: &setpoints[..n],
+        actuals: &actuals[..n],
+        ogas: &ogas[..n],
+        ugas: &ugas[..n],
+    };
     both(
         after,
-        &setpoints[..n],
-        &actuals[..n],
-        &ogas[..n],
-        &ugas[..n],
-        seconds,
+        samples,
+        u64::from(windows.seconds),
         positive,
         negative,
     )

@@ -1,19 +1,18 @@
 // What a direction sees of the samples of a quarter hour, as series of plain numbers that the caller lends.
 ghost use Rattle.std.specs.Prelude.{◌≡◌, ◌<◌, ◌≤◌, ◌++◌, length, drop};
 ghost use Rattle.series.specs.Scan.{each};
-ghost use Rattle.claims.specs.Powers.{samples};
+ghost use Rattle.claims.specs.Powers.{lent};
 ghost use Rattle.claims.specs.Views.{delivered_of, idle_of, falls_of, amounts_of};
-ghost use Rattle.claims.specs.Room.{Level, Roomy, Faced, Viewed};
+ghost use Rattle.claims.specs.Room.{Level, Faced, Viewed};
 
 use arithmetic::power::Units;
 use arithmetic::whole::{above_zero, below_zero};
-use std::num::wrapping_add_u64;
 use values::part::{Part, facing};
 use values::value::{Quantity, amount};
 use vocabulary::direction::Direction;
 
 // The quantities of one part that are summed over a quarter hour, but for the actual, in units.
-#[derive(Clone, Copy)]
+#[derive(Clone, Copy, Debug, PartialEq, Eq)]
 pub struct Amounts {
     pub setpoint: u64,
     pub acceptance: u64,
@@ -25,7 +24,7 @@ pub struct Amounts {
 }
 
 // How many parts are not idle, how many fall short of the inner bound, and the sums of those quantities that no contract has a slice of.
-#[derive(Clone, Copy)]
+#[derive(Clone, Copy, Debug, PartialEq, Eq)]
 pub struct Seen {
     pub count: usize,
     pub short: usize,
@@ -33,13 +32,34 @@ pub struct Seen {
     pub under_delivery: u64,
 }
 
+// The samples of a quarter hour in kW, as many actuals as setpoints, with the bounds at each in units. Four series: the channel gives the bounds apart from
+// the samples.
+#[derive(Clone, Copy)]
+pub struct Samples<'a> {
+    pub setpoints: &'a [i32],
+    pub actuals: &'a [i32],
+    pub ogas: &'a [i64],
+    pub ugas: &'a [i64],
+}
+
+// A quantity of each sample that is not idle, one after the other, in units; of the inner bound and of what is kept only where the one falls short of the
+// other. Each direction in turn writes over the same series, since making them takes longer than a good part of what is done with them.
+#[derive(Clone, Copy)]
+pub struct Series {
+    pub asked: [u64; 900],
+    pub accepted: [u64; 900],
+    pub required: [u64; 900],
+    pub inner: [u64; 900],
+    pub kept: [u64; 900],
+}
+
 // What of an actual power a direction sees, in units.
 fn delivered_at(direction: Direction, actual: i32) -> u64
     ensures { result ≡ delivered_of direction actual }
 {
     match direction {
-        Direction::Positive => (above_zero(actual) as u64) * 5400,
-        Direction::Negative => (below_zero(actual) as u64) * 5400,
+        Direction::Positive => u64::from(above_zero(actual)) * 5400,
+        Direction::Negative => u64::from(below_zero(actual)) * 5400,
     }
 }
 
@@ -48,10 +68,8 @@ pub(crate) fn delivered(direction: Direction, actuals: &[i32], out: &mut [u64])
     requires { length actuals.now ≤ length out.old }
     ensures { out.new ≡ each (delivered_of direction) actuals.now ++ drop (length actuals.now) out.old }
 {
-    let mut i: usize = 0;
-    while i < actuals.len() {
-        out[i] = delivered_at(direction, actuals[i]);
-        i += 1;
+    for (i, actual) in actuals.iter().enumerate() {
+        out[i] = delivered_at(direction, *actual);
     }
 }
 
@@ -60,18 +78,8 @@ pub(crate) fn delivered(direction: Direction, actuals: &[i32], out: &mut [u64])
 fn idle(part: Part) -> bool
     ensures { result ≡ idle_of part }
 {
-    let outer = part.outer;
-    let inner = part.inner;
-    if part.setpoint == 0 {
-        let unreached = outer.0 == 0;
-        if unreached {
-            return inner.0 == 0;
-        }
-        if part.actual == 0 {
-            return inner.0 == 0;
-        }
-    }
-    false
+    let unreached = part.outer.0 == 0;
+    part.setpoint == 0 && (unreached || part.actual == 0) && part.inner.0 == 0
 }
 
 fn amounts_of(part: Part) -> Amounts
@@ -92,69 +100,50 @@ fn amounts_of(part: Part) -> Amounts
 fn falls_short(covered: u64, inner: u64) -> usize
     ensures { result ≡ falls_of covered inner }
 {
-    if covered < inner {
-        return 1;
-    }
-    0
+    usize::from(covered < inner)
 }
 
 // The side of the i-th sample that a direction looks at.
-fn faced(
-    direction: Direction,
-    setpoints: &[i32],
-    actuals: &[i32],
-    ogas: &[i64],
-    ugas: &[i64],
-    i: usize,
-) -> Part
-    requires { Level (samples setpoints.now actuals.now ogas.now ugas.now) × (i < length setpoints.now) }
-    ensures { Faced direction (samples setpoints.now actuals.now ogas.now ugas.now) i result }
+fn faced(direction: Direction, samples: Samples, i: usize) -> Part
+    requires { Level (lent samples) × (i < length samples.setpoints.now) }
+    ensures { Faced direction (lent samples.entry) i result }
 {
-    let oga = Units(ogas[i]);
-    let uga = Units(ugas[i]);
-    facing(direction, setpoints[i], actuals[i], oga, uga)
+    facing(
+        direction,
+        samples.setpoints[i],
+        samples.actuals[i],
+        Units(samples.ogas[i]),
+        Units(samples.ugas[i]),
+    )
 }
 
-// Each other quantity of the samples that has a slice, as a series of its own. A sample that is idle on the direction's side is left out; and one that does
+// Each quantity but the actual that has a slice, as a series of its own. A sample that is idle on the direction's side is left out; and one that does
 // not fall short is written over in the series of the inner bound and of what is kept, of which only the difference counts.
 // Of one that does, all that is covered is kept, so that what is kept need not be worked out.
-pub(crate) fn viewed(
-    direction: Direction,
-    setpoints: &[i32],
-    actuals: &[i32],
-    ogas: &[i64],
-    ugas: &[i64],
-    asked: &mut [u64],
-    accepted: &mut [u64],
-    required: &mut [u64],
-    inner: &mut [u64],
-    kept: &mut [u64],
-) -> Seen
-    requires { Level (samples setpoints.now actuals.now ogas.now ugas.now) × Roomy asked.old accepted.old required.old inner.old kept.old }
-    ensures { Viewed direction (samples setpoints.now actuals.now ogas.now ugas.now)
-        asked.new accepted.new required.new inner.new kept.new
-        result.count result.short result.surplus result.under_delivery (length setpoints.now) }
+pub(crate) fn viewed(direction: Direction, samples: Samples, series: &mut Series) -> Seen
+    requires { Level (lent samples) }
+    ensures { Viewed direction (lent samples.entry)
+        series.new.asked series.new.accepted series.new.required series.new.inner series.new.kept
+        result.count result.short result.surplus result.under_delivery (length samples.entry.setpoints.now) }
 {
     let mut count: usize = 0;
     let mut short: usize = 0;
     let mut surplus: u64 = 0;
     let mut under_delivery: u64 = 0;
-    let mut i: usize = 0;
-    while i < setpoints.len() {
-        let part = faced(direction, setpoints, actuals, ogas, ugas, i);
-        i += 1;
+    for i in 0..samples.setpoints.len() {
+        let part = faced(direction, samples, i);
         if idle(part) {
             continue;
         }
         let amounts = amounts_of(part);
-        asked[count] = amounts.setpoint;
-        accepted[count] = amounts.acceptance;
-        required[count] = amounts.floor;
-        inner[short] = amounts.inner;
-        kept[short] = amounts.covered;
+        series.asked[count] = amounts.setpoint;
+        series.accepted[count] = amounts.acceptance;
+        series.required[count] = amounts.floor;
+        series.inner[short] = amounts.inner;
+        series.kept[short] = amounts.covered;
         short += falls_short(amounts.covered, amounts.inner);
-        surplus = wrapping_add_u64(surplus, amounts.surplus);
-        under_delivery = wrapping_add_u64(under_delivery, amounts.under_delivery);
+        surplus = surplus.wrapping_add(amounts.surplus);
+        under_delivery = under_delivery.wrapping_add(amounts.under_delivery);
         count += 1;
     }
     Seen {

@@ -1,6 +1,6 @@
 -- The contract lists of both directions: one direction's is looked at and changed alone, but for an identifier, which neither may have yet.
 use Rattle.std.specs.Prelude.{List, ℕ}
-use Rattle.vocabulary.specs.declared.refusal.Refusal.{Refusal}
+use Rattle.vocabulary.specs.Refusals.{Ruling}
 use Rattle.vocabulary.specs.declared.contract.Contract.{Contract}
 use Rattle.vocabulary.specs.declared.direction.Direction.{Direction}
 use Rattle.vocabulary.specs.declared.direction.Direction.TheVariants.{Positive, Negative}
@@ -24,7 +24,7 @@ unfoldable pub no_books : Books
 no_books = record { positive = empty_book; negative = empty_book }
 
 -- why one contract more is refused, in its direction: 6 to 12
-unfoldable pub books_refusal : Books → Contract → List ℕ → Refusal
+unfoldable pub books_refusal : Books → Contract → List ℕ → Ruling
 books_refusal books c identifier = contract_refusal (book_in c.direction books) (book_in (mirror_of c.direction) books) identifier c.award c.price
 
 -- with one contract more in its direction

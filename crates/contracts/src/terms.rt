@@ -1,6 +1,5 @@
 // The contracts of a direction as a quarter hour takes them: awards and prices, and the limits that the awards add up to.
 ghost use Rattle.std.specs.Prelude.{◌≡◌, ◌*◌, ◌≤◌, ◌^◌};
-ghost use Rattle.series.specs.Cuts.{no_sums};
 ghost use Rattle.contracts.specs.Terms.{terms_of, limits_of};
 
 use crate::book::Awarded;
@@ -23,30 +22,22 @@ pub(crate) fn terms_of(contract: Awarded) -> Terms
     }
 }
 
-fn no_limits() -> [u64; 32]
-    ensures { result ≡ no_sums }
-{
-    [0u64; 32]
-}
-
 // A contract's award, in units.
 fn award(terms: Terms) -> Power
     ensures { (result.0 ≡ terms.award * 5400) × (result.0 ≤ 2 ^ 45) }
 {
-    Power((terms.award as u64) * 5400)
+    Power(u64::from(terms.award) * 5_400)
 }
 
 // The upper limit of each contract, in units: the sum of the awards up to its own.
 pub fn limits(terms: [Terms; 32]) -> [u64; 32]
     ensures { result ≡ limits_of terms }
 {
-    let mut out = no_limits();
+    let mut out = [0u64; 32];
     let mut high: u64 = 0;
-    let mut k = 0;
-    while k < 32 {
+    for k in 0..32 {
         high += award(terms[k]).0;
         out[k] = high;
-        k += 1;
     }
     out
 }

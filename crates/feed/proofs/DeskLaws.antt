@@ -6,9 +6,11 @@ use mathlib.Core.List.{List, [], ◌∷◌}
 use native.Mathlib.Omega.{arith}
 use lib.ListN.{length}
 use lib.IntN.{ℤ}
-use Rattle.vocabulary.specs.declared.refusal.Refusal.{Refusal}
+use Rattle.std.specs.Prelude.{Err}
 use Rattle.vocabulary.specs.declared.refusal.Refusal.TheVariants.{WrongMoment}
-use Rattle.vocabulary.specs.Refusals.{accepted}
+use Rattle.vocabulary.specs.Refusals.{Ruling, accepted}
+use Rattle.vocabulary.specs.declared.stage.Stage.{Stage}
+use Rattle.vocabulary.specs.declared.stage.Stage.TheVariants.{Empty, Open, Closed}
 use Rattle.vocabulary.specs.Sample.{power_in_range}
 use Rattle.vocabulary.specs.declared.sample.Sample.{Sample}
 use Rattle.lines.specs.Turns.{quiet}
@@ -29,15 +31,13 @@ use Rattle.settlement.proofs.Many as many
 use Rattle.settlement.proofs.Many.{Ranged, with_all, room-left, none-refused, all-taken}
 use Rattle.text.specs.Desk.{Turn, desk_at, refused_turn, taken_text, quarter_turn, sample_turn, samples_turn, room_at, first_turn, next_turn, turn_at, line_turn}
 use Rattle.text.proofs.Telling.{waits}
-use Rattle.text.specs.declared.desk.Stage.{Stage}
-use Rattle.text.specs.declared.desk.Stage.TheVariants.{Empty, Open, Closed}
 use Rattle.text.specs.declared.desk.Desk.{Desk}
 use Rattle.feed.specs.Reader.{closed_of}
 
 -- ---- a line that says a sample
 
 abbrev sample_at : Stage → Desk → ℕ → Sample → Turn
-sample_at Empty desk number s = refused_turn desk number WrongMoment
+sample_at Empty desk number s = refused_turn desk number (Err WrongMoment)
 sample_at Open desk number s = sample_turn desk number s
 sample_at Closed desk number s = quiet desk
 
@@ -62,7 +62,7 @@ module _ (run : Run) (s : Sample) (m : ℕ) (room : suc m ≤ room_of run) (p : 
   stored : (number : ℕ) → sample_turn (desk_at Open run) number s ≡ quarter_turn next
   unfolding sample_turn sampled_of
   stored number =
-      ap (λ (x : Refusal). cond (accepted x) (quarter_turn (cond (accepted x) next run)) (refused_turn (desk_at Open run) number x))
+      ap (λ (x : Ruling). cond (accepted x) (quarter_turn (cond (accepted x) next run)) (refused_turn (desk_at Open run) number x))
       (none-refused run s.setpoint s.actual m room p q)
 
 -- what the desk is after all of them

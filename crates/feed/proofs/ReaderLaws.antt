@@ -9,6 +9,8 @@ use borrow.Author.Tests.{le-ltb, lt-ltb, le-leb, ltb-true, ltb-false}
 use lib.Dec.{leb, ltb}
 use lib.ListN.{length, take, drop, length-drop, drop_of_length-le}
 use lib.Seq.{drop-drop, sets}
+use Rattle.std.proofs.Common.{min}
+use Rattle.std.proofs.lemmas.List.{take_min}
 use lib.IntN.{ℤ}
 use Rattle.arithmetic.specs.Whole.{least_of}
 use Rattle.arithmetic.proofs.Booleans.{true-false}
@@ -35,10 +37,11 @@ use Rattle.settlement.specs.Many.{room_of}
 use Rattle.sheets.specs.Buffer.{buffer_length, length_of, over}
 use Rattle.sheets.proofs.Yielding as yields
 use Rattle.sheets.proofs.Yielding.{over-length, long-enough}
-use Rattle.sheets.specs.declared.Printed.{Printed}
-use Rattle.sheets.specs.declared.Printed.TheVariants.{Length, TooShort}
-use Rattle.text.specs.Desk.{Turn, Tells, answer_of, desk_at, line_turn, finish_turn, quarter_turn, samples_turn, room_at, closed_at}
-use Rattle.text.specs.declared.desk.Stage.TheVariants.{Open}
+use Rattle.std.specs.Prelude.{Ok, Err}
+use Rattle.vocabulary.specs.declared.refusal.Refusal.TheVariants.{BufferTooShort}
+use Rattle.vocabulary.specs.Stage.{closed_at}
+use Rattle.vocabulary.specs.declared.stage.Stage.TheVariants.{Open}
+use Rattle.text.specs.Desk.{Turn, Tells, answer_of, desk_at, line_turn, finish_turn, quarter_turn, samples_turn, room_at}
 use Rattle.text.specs.declared.desk.Desk.{Desk}
 use Rattle.text.specs.declared.desk.Told.{Told}
 use Rattle.feed.specs.Reader.{closed_of, feed_of, finish_of, reader_of, unfed_of, fed_of, Yields}
@@ -54,7 +57,7 @@ use Rattle.feed.proofs.DeskLaws.{sample_line, says, quietly, open-there, room_mo
 
 pub record Told-whole (out : List ℕ) (turn : Turn) (told : Told) (out' : List ℕ) : Type 0 where
   pub desk : told.desk ≡ turn.desk
-  pub printed : told.printed ≡ Length (length turn.text)
+  pub printed : told.printed ≡ Ok (length turn.text)
   pub bytes : out' ≡ over turn.text out
   pub room : length turn.text ≤ length out
 
@@ -62,8 +65,8 @@ pub told-whole : {out out' : List ℕ} {before : Desk} {turn : Turn} {told : Tol
 told-whole {out} {out'} {before} {turn} {told} h t =
     let few : length turn.text ≤ length out = omega (arith, t.room) in
     let room : leb (length turn.text) (length out) ≡ true = le-leb _ _ few in
-    let a : told ≡ record { desk = turn.desk; printed = Length (length turn.text) } =
-    t.prints.answer ∙ ap (λ (b : Bool). answer_of before turn.desk (cond b (Length (length turn.text)) Printed.TooShort)) room in
+    let a : told ≡ record { desk = turn.desk; printed = Ok (length turn.text) } =
+    t.prints.answer ∙ ap (λ (b : Bool). answer_of before turn.desk (cond b (Ok (length turn.text)) (Err BufferTooShort))) room in
     record {
       desk = ap (λ (x : Told). x.desk) a;
       printed = ap (λ (x : Told). x.printed) a;
@@ -72,21 +75,23 @@ told-whole {out} {out'} {before} {turn} {told} h t =
     }
 
 -- where nothing is said
-pub told-nothing : (desk : Desk) (out : List ℕ) → Tells out desk (quiet desk) (record { desk = desk; printed = Length 0 }) out
+pub told-nothing : (desk : Desk) (out : List ℕ) → Tells out desk (quiet desk) (record { desk = desk; printed = Ok 0 }) out
 told-nothing desk out =
     let room : leb 0 (length out) ≡ true = le-leb 0 (length out) (omega arith) in
     record {
       prints = record {
-        answer = sym (ap (λ (b : Bool). answer_of desk desk (cond b (Length 0) Printed.TooShort)) room);
+        answer = sym (ap (λ (b : Bool). answer_of desk desk (cond b (Ok 0) (Err BufferTooShort))) room);
         bytes = sym (ap (λ (b : Bool). cond b (over [] out) out) room);
       };
       room = omega arith;
     }
 
 -- a line by the bytes that are kept of it
-pub same_line : (d : Desk) (g : Gatherer) {n k : ℕ} {bytes : List ℕ} → bytes ≡ g.bytes → n ≡ g.count → k ≡ g.length → line_turn d n (take k bytes) ≡ line_turn d g.count (held_by g)
+pub same_line : (d : Desk) (g : Gatherer) {n k : ℕ} {bytes : List ℕ} → bytes ≡ g.bytes → n ≡ g.count → k ≡ min g.length (length bytes)
+    → line_turn d n (take k bytes) ≡ line_turn d g.count (held_by g)
 same_line d g {n} {k} {bytes} p q r =
-    ap (λ (m : ℕ). line_turn d m (take k bytes)) q ∙ ap (λ (m : ℕ). line_turn d g.count (take m bytes)) r ∙ ap (λ (b : List ℕ). line_turn d g.count (take g.length b)) p
+    ap (λ (m : ℕ). line_turn d m (take k bytes)) q
+    ∙ ap (line_turn d g.count) (ap (λ (m : ℕ). take m bytes) r ∙ take_min g.length bytes ∙ ap (take g.length) p)
 
 -- at the end of some bytes
 at-end : (reader : Reader) (t : List ℕ) → t ≡ [] → feed_of reader t ≡ stay reader.gatherer reader.desk
@@ -320,10 +325,10 @@ as-steps {out} {out'} {r = r} {sp = sp} {ac = ac} e s = subst (λ (x : Turn). St
 
 -- the same step, as a desk with the powers of its samples tells it
 abbrev stepped_told : Stepped → List ℤ → List ℤ → Told
-stepped_told r sp ac = record { desk = desk_with r.desk sp ac; printed = Length r.printed }
+stepped_told r sp ac = record { desk = desk_with r.desk sp ac; printed = Ok r.printed }
 
 as-told : {out out' : List ℕ} {turn : Turn} {r : Stepped} {sp ac : List ℤ} → Steps out turn r sp ac out' → Told-whole out turn (stepped_told r sp ac) out'
-as-told s = record { desk = s.desk; printed = ap Length s.printed; bytes = s.bytes; room = s.room }
+as-told s = record { desk = s.desk; printed = ap Ok s.printed; bytes = s.bytes; room = s.room }
 
 -- samples that are counted
 pub counted-steps : {bare : Bare} {sp ac : List ℤ} {out out' : List ℕ} {t : BareTold} {n : ℕ} → buffer_length ≤ length out → Settles out bare sp ac t out' → n ≡ length_of t.printed
@@ -520,14 +525,14 @@ pub record Going (start : Reader) (block out₀ : List ℕ) (reader : Reader) (i
 abbrev up_to : Reader → ℕ → ℕ → Left
 up_to reader i n = record { gatherer = reader.gatherer; desk = reader.desk; used = i; printed = n }
 
-pub record Come (start : Reader) (block out₀ : List ℕ) (reader : Reader) (i n : ℕ) (out : List ℕ) (on : Bool) : Type 0 where
+-- printed nothing, it is where it began; printed something, what it answers is known
+pub record Come (start : Reader) (block out₀ : List ℕ) (reader : Reader) (i n : ℕ) (out : List ℕ) : Type 0 where
   pub long : length out ≡ length out₀
-  pub going : on ≡ true → Going start block out₀ reader i out
-  pub done : on ≡ false → Reads start block out₀ (up_to reader i n) out
+  pub quiet : n ≡ 0 → So start block reader i × (out ≡ out₀)
+  pub loud : 0 < n → Reads start block out₀ (up_to reader i n) out
 
-module _ (start : Reader) (block out₀ : List ℕ) (reader : Reader) (i n : ℕ) {out : List ℕ} {on closed : Bool} (told : on ≡ goes_on n closed i (length block))
-    (told-closed : closed ≡ closed_of reader.desk) (long : length out ≡ length out₀) (quiet : n ≡ 0 → So start block reader i × (out ≡ out₀))
-    (loud : 0 < n → Reads start block out₀ (up_to reader i n) out) where
+module _ {start : Reader} {block out₀ : List ℕ} {reader : Reader} {i n : ℕ} {out : List ℕ} (come : Come start block out₀ reader i n out) {on closed : Bool}
+    (told : on ≡ goes_on n closed i (length block)) (told-closed : closed ≡ closed_of reader.desk) where
   none-printed : ltb 0 n ≡ false → n ≡ 0
   none-printed e = let h : n ≤ 0 = ltb-false 0 n e in omega arith
 
@@ -535,32 +540,29 @@ module _ (start : Reader) (block out₀ : List ℕ) (reader : Reader) (i n : ℕ
   silent e r = subst (λ (k : ℕ). Reads start block out₀ (up_to reader i k) out) (sym (none-printed e)) r
 
   by_stop : Stops (ltb 0 n) closed (ltb i (length block)) → Reads start block out₀ (up_to reader i n) out
-  by_stop (printed e) = loud (ltb-true 0 n e)
-  by_stop (shut e c) = let q = quiet (none-printed e) in silent e (so-closed start block out₀ reader i q.1 q.0 (sym told-closed ∙ c))
-  by_stop (ended e l) = let q = quiet (none-printed e) in silent e (so-ended start block out₀ reader i q.1 q.0 (ltb-false i (length block) l))
+  by_stop (printed e) = come.loud (ltb-true 0 n e)
+  by_stop (shut e c) = let q = come.quiet (none-printed e) in silent e (so-closed start block out₀ reader i q.1 q.0 (sym told-closed ∙ c))
+  by_stop (ended e l) = let q = come.quiet (none-printed e) in silent e (so-ended start block out₀ reader i q.1 q.0 (ltb-false i (length block) l))
 
-  pub come : Come start block out₀ reader i n out on
-  come =
-      record {
-        long = long;
-        going = λ e.
-            (let g = to-go-on (ltb 0 n) closed (ltb i (length block)) (sym told ∙ e) in
-            let q = quiet (none-printed g.0) in
-            record { so = q.0; same = q.1; opened = sym told-closed ∙ g.1; here = ltb-true i (length block) g.2 });
-        done = λ e. by_stop (to-stop (ltb 0 n) closed (ltb i (length block)) (sym told ∙ e));
-      }
+  pub going : on ≡ true → Going start block out₀ reader i out
+  going e =
+      let g = to-go-on (ltb 0 n) closed (ltb i (length block)) (sym told ∙ e) in
+      let q = come.quiet (none-printed g.0) in
+      record { so = q.0; same = q.1; opened = sym told-closed ∙ g.1; here = ltb-true i (length block) g.2 }
+
+  pub done : on ≡ false → Reads start block out₀ (up_to reader i n) out
+  done e = by_stop (to-stop (ltb 0 n) closed (ltb i (length block)) (sym told ∙ e))
 
 -- before the first step
-pub come-first : (start : Reader) (block out : List ℕ) {on closed : Bool} → on ≡ goes_on 0 closed 0 (length block) → closed ≡ closed_of start.desk → Come start block out start 0 0 out on
-come-first start block out e c = come start block out start 0 0 e c refl (λ z. (so-first start block, refl)) (λ h. absurd (omega arith))
+pub come-first : (start : Reader) (block out : List ℕ) → Come start block out start 0 0 out
+come-first start block out = record { long = refl; quiet = λ z. (so-first start block, refl); loud = λ h. absurd (omega arith) }
 
 -- and after one more
-pub come-on : (start : Reader) {block out₀ : List ℕ} {reader : Reader} {i : ℕ} {r : Left} {out out' : List ℕ} {on closed : Bool}
-    → Going start block out₀ reader i out → Moves reader block i out r out' → on ≡ goes_on r.printed closed (i + r.used) (length block) → closed ≡ closed_of r.desk
-    → Come start block out₀ (left_by r) (i + r.used) r.printed out' on
-come-on start {block} {out₀} {reader} {i} {r} {out} {out'} g m e c =
+pub come-on : (start : Reader) {block out₀ : List ℕ} {reader : Reader} {i : ℕ} {r : Left} {out out' : List ℕ}
+    → Going start block out₀ reader i out → Moves reader block i out r out' → Come start block out₀ (left_by r) (i + r.used) r.printed out'
+come-on start g m =
     let m₀ = other-out g.same m in
-    come start block out₀ (left_by r) (i + r.used) r.printed e c (moves-length m ∙ ap length g.same) (so-on start g.so m₀) (so-told start g.so m₀)
+    record { long = moves-length m ∙ ap length g.same; quiet = so-on start g.so m₀; loud = so-told start g.so m₀ }
 
 -- ---- A CALL
 
@@ -572,7 +574,7 @@ pub fed-whole : {out out' : List ℕ} {reader : Reader} {block : List ℕ} {r : 
     → Yields out reader (feed_of reader block) f out'
 fed-whole {out} {out'} {reader} {block} {r} h e t =
     let o : Outcome Desk = feed_of reader block in
-    let whole : fed_by r ≡ fed_of o = λ i. record { reader = t.reader_is i; used = t.used i; printed = Length (t.printed i) } in
+    let whole : fed_by r ≡ fed_of o = λ i. record { reader = t.reader_is i; used = t.used i; printed = Ok (t.printed i) } in
     long-enough (λ (f : Fed). f.printed) buffer_length out (unfed_of reader) (fed_of o) o.text h (e ∙ whole) t.bytes (omega (arith, t.room))
 
 pub finished : {out out' : List ℕ} {reader : Reader} {n : ℕ} {told : Told} {f : Fed} → buffer_length ≤ length out → n ≡ reader.gatherer.count

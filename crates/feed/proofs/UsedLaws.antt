@@ -1,4 +1,5 @@
 -- How many bytes of a block a call uses: some, where the desk is open and there are any, and no more than there are.
+use Rattle.std.specs.Prelude.{Ok}
 use Prim.Native.Nat.{ℕ, suc, ◌+◌, ◌-◌, ◌≤◌, ◌<◌}
 use mathlib.Core.Path.{◌≡◌, refl, sym, ap, subst, ◌∙◌}
 use mathlib.Core.Bool.{Bool, true, false, cond}
@@ -6,21 +7,18 @@ use mathlib.Core.Logic.{◌⊎◌, inl, inr, ⊎_elim}
 use mathlib.Core.List.{List, [], ◌∷◌, ◌++◌, append-nil}
 use native.Mathlib.Omega.{arith}
 use native.Mathlib.Decide.{ℕ_discrete}
-use borrow.Author.Tests.{le-ltb}
-use lib.ListN.{length, take, drop, length-drop, drop_of_length-le}
-use lib.Seq.{drop-drop}
-use Rattle.fields.proofs.DigitLaws.{to_end}
+use lib.Dec.{ltb}
+use lib.ListN.{length, drop}
 use Rattle.lines.specs.Feed.{Outcome, forth, is_none, line_at}
 use Rattle.lines.specs.Feed as lines
 use Rattle.lines.specs.Gathering.{fresh_of, longer_by, completed}
 use Rattle.lines.specs.Turns.{Turn}
 use Rattle.lines.specs.declared.Gatherer.{Gatherer}
 use Rattle.lines.proofs.FeedLaws.{at-lf, at_other, closed-stays}
-use Rattle.sheets.specs.Buffer.{buffer_length, length_of}
-use Rattle.sheets.proofs.Yielding.{answers, same_length}
+use Rattle.sheets.specs.Buffer.{buffer_length}
 use Rattle.text.specs.Desk.{line_turn}
 use Rattle.text.specs.declared.desk.Desk.{Desk}
-use Rattle.feed.specs.Reader.{closed_of, feed_of, reader_of, fed_of, Yields}
+use Rattle.feed.specs.Reader.{closed_of, feed_of, reader_of, unfed_of, fed_of, Yields}
 use Rattle.feed.specs.Feeding.{Feeds, Through, used_up, closed, call}
 use Rattle.feed.specs.declared.Reader.{Reader}
 use Rattle.feed.specs.declared.Fed.{Fed}
@@ -66,49 +64,43 @@ module _ {D : Type 0} (turn : D → ℕ → List ℕ → Turn D) (shut : D → B
       ])
       (told (shut d))
 
--- ---- a caller's loop over a block: a call on `&block[i..]`
+-- ---- what a caller's loop over a block goes by (crates/stream)
 
-pub from_start : {reader last : Reader} (block : List ℕ) → Through reader (drop 0 block) last → Through reader block last
-from_start block t = t
+pub at_end : (reader : Reader) → Through reader [] reader
+at_end reader = record { text = []; feeds = used_up }
 
-pub at-block-end : (reader : Reader) (block : List ℕ) (i : ℕ) → length block ≤ i → Through reader (drop i block) reader
-at-block-end reader block i h = subst (λ (l : List ℕ). Through reader l reader) (sym (drop_of_length-le block h)) (record { text = []; feeds = used_up })
+pub at_closed : (reader : Reader) (bytes : List ℕ) → closed_of reader.desk ≡ true → Through reader bytes reader
+at_closed reader bytes e = record { text = []; feeds = closed e }
 
-pub at-closed : (reader : Reader) (bytes : List ℕ) → closed_of reader.desk ≡ true → Through reader bytes reader
-at-closed reader bytes e = record { text = []; feeds = closed e }
+-- one call: how much it uses, and what comes of the rest comes of the whole
+pub record Called (reader : Reader) (block : List ℕ) (r : Fed) : Type 0 where
+  pub within : r.used ≤ length block
+  pub some : (n : ℕ) → r.printed ≡ Ok n → closed_of reader.desk ≡ false → 0 < length block → 0 < r.used
+  pub on : (last : Reader) → Through r.reader (drop r.used block) last → Through reader block last
 
-pub one-call : {reader last : Reader} (block : List ℕ) (i : ℕ) (n : ℕ) → n ≡ (feed_of reader (drop i block)).used
-    → Through (reader_of (feed_of reader (drop i block))) (drop (i + n) block) last → Through reader (drop i block) last
-one-call {reader} {last} block i n e t =
-    let here = drop i block in
-    let rest : drop (i + n) block ≡ drop (feed_of reader here).used here ++ [] =
-    sym (drop-drop n i block) ∙ ap (λ (k : ℕ). drop k here) e ∙ sym (append-nil (drop (feed_of reader here).used here)) in
+unfed : (reader : Reader) (block : List ℕ) → Called reader block (unfed_of reader)
+unfed reader block = record {
+  within = omega arith;
+  some = λ n e o h. absurd (let z : ◌≡◌ {A = ℕ} 0 1 = cc in (omega arith));
+  on = λ last t. t;
+}
+
+whole : (reader : Reader) (block : List ℕ) → Called reader block (fed_of (feed_of reader block))
+whole reader block =
+    let o = feed_of reader block in
     record {
-      text = (feed_of reader here).text ++ t.text;
-      feeds = subst (λ (l : List ℕ). Feeds reader l ((feed_of reader here).text ++ t.text) last) (append-nil here)
-          (call here [] (subst (λ (l : List ℕ). Feeds (reader_of (feed_of reader here)) l t.text last) rest t.feeds));
+      within = used-within line_turn closed_of block reader.gatherer reader.desk;
+      some = λ n e o h. used-some line_turn closed_of block reader.gatherer reader.desk o h;
+      on = λ last t. record {
+        text = o.text ++ t.text;
+        feeds = subst (λ (l : List ℕ). Feeds reader l (o.text ++ t.text) last) (append-nil block)
+            (call block [] (subst (λ (l : List ℕ). Feeds (reader_of o) l t.text last) (sym (append-nil (drop o.used block))) t.feeds));
+      };
     }
 
--- a step of the caller's loop
-pub record Called (reader : Reader) (block : List ℕ) (i : ℕ) (r : Fed) (out out' : List ℕ) : Type 0 where
-  pub within : i + r.used ≤ length block
-  pub some : closed_of reader.desk ≡ false → 0 < r.used
-  pub on : {last : Reader} → Through r.reader (drop (i + r.used) block) last → Through reader (drop i block) last
-  pub length-is : length out' ≡ length out
-  pub room : length_of r.printed ≤ length out'
-
-pub called : {out out' : List ℕ} {reader : Reader} {block : List ℕ} {i : ℕ} {r : Fed} → buffer_length ≤ length out → i < length block
-    → Yields out reader (feed_of reader (take (length block - i) (drop i block))) r out' → Called reader block i r out out'
-called {out} {out'} {reader} {block} {i} {r} h l y =
-    let all : take (length block - i) (drop i block) ≡ drop i block = to_end block i in
-    let here = feed_of reader (drop i block) in
-    let a : r ≡ fed_of here = answers h y ∙ ap (λ (t : List ℕ). fed_of (feed_of reader t)) all in
-    let u : r.used ≡ here.used = ap (λ (x : Fed). x.used) a in
-    let left : length (drop i block) ≡ length block - i = length-drop i block in
-    record {
-      within = omega (arith, u, left, used-within line_turn closed_of (drop i block) reader.gatherer reader.desk);
-      some = λ o. omega (arith, u, left, used-some line_turn closed_of (drop i block) reader.gatherer reader.desk o (omega (arith, left)));
-      on = λ {last} t. one-call block i r.used u (subst (λ (x : Reader). Through x (drop (i + r.used) block) last) (ap (λ (x : Fed). x.reader) a) t);
-      length-is = same_length h y refl;
-      room = omega (arith, y.room, same_length h y refl);
-    }
+pub called : {out out' : List ℕ} {reader : Reader} {block : List ℕ} {r : Fed} → Yields out reader (feed_of reader block) r out' → Called reader block r
+called {out} {out'} {reader} {block} {r} y = go (ltb (length out) buffer_length) y.answer
+  where
+    go : (short : Bool) → r ≡ cond short (unfed_of reader) (fed_of (feed_of reader block)) → Called reader block r
+    go true e = rw e (unfed reader block)
+    go false e = rw e (whole reader block)

@@ -1,12 +1,13 @@
 -- What the calls of the reader make of a block of input, and of its end (RULES, 'Text').
-use Rattle.std.specs.Prelude.{ℕ, Bool, List, length}
+use Rattle.std.specs.Prelude.{ℕ, Bool, List, length, Ok, Err}
 use Rattle.lines.specs.Gathering.{empty_gatherer}
 use Rattle.lines.specs.Feed as lines
 use Rattle.lines.specs.Feed.{Outcome}
 use Rattle.sheets.specs.Buffer as buffer
 use Rattle.sheets.specs.Buffer.{buffer_length}
-use Rattle.sheets.specs.declared.Printed.TheVariants.{Length, TooShort}
-use Rattle.text.specs.Desk.{empty_desk, line_turn, finish_turn, closed_at}
+use Rattle.vocabulary.specs.Stage.{closed_at}
+use Rattle.vocabulary.specs.declared.refusal.Refusal.TheVariants.{BufferTooShort}
+use Rattle.text.specs.Desk.{empty_desk, line_turn, finish_turn}
 use Rattle.text.specs.declared.desk.Desk.{Desk}
 use Rattle.feed.specs.declared.Reader.{Reader}
 use Rattle.feed.specs.declared.Fed.{Fed}
@@ -38,10 +39,10 @@ reader_of o = record { gatherer = o.gatherer; desk = o.desk }
 
 -- what a call answers; one that is lent a buffer that may be too short does nothing
 abbrev pub unfed_of : Reader → Fed
-unfed_of reader = record { reader = reader; used = 0; printed = TooShort }
+unfed_of reader = record { reader = reader; used = 0; printed = Err BufferTooShort }
 
 abbrev pub fed_of : Outcome Desk → Fed
-fed_of o = record { reader = reader_of o; used = o.used; printed = Length (length o.text) }
+fed_of o = record { reader = reader_of o; used = o.used; printed = Ok (length o.text) }
 
 abbrev pub Yields : List ℕ → Reader → Outcome Desk → Fed → List ℕ → Type 0
 Yields out reader o r out' = buffer.Yields (λ (f : Fed). f.printed) buffer_length out (unfed_of reader) (fed_of o) o.text r out'

@@ -1,5 +1,5 @@
 -- The parts of a call, as the code has them: what stands next in a block, and what the desk makes of it. The powers of the samples lie beside the desk.
-use Rattle.std.specs.Prelude.{ℕ, ◌+◌, ◌≤◌, ◌<◌, ◌≡◌, Bool, false, cond, List, length, drop, ltb, ℤ}
+use Rattle.std.specs.Prelude.{ℕ, ◌+◌, ◌≤◌, ◌<◌, ◌≡◌, Bool, false, cond, List, length, drop, ltb, ℤ, Ok}
 use Rattle.lines.specs.Gathering.{fresh_of, past_of, gathered_of}
 use Rattle.lines.specs.Feed.{Start, on_turn}
 use Rattle.lines.specs.Handing.{held_by}
@@ -9,7 +9,6 @@ use Rattle.lines.specs.declared.Gathered.{Gathered}
 use Rattle.samples.specs.Stretch.{Stretched}
 use Rattle.settlement.specs.Bare.{whole_of, with_more}
 use Rattle.sheets.specs.Buffer.{over}
-use Rattle.sheets.specs.declared.Printed.TheVariants.{Length}
 use Rattle.text.specs.Desk.{Turn, line_turn, quarter_turn}
 use Rattle.text.specs.declared.desk.Desk.{Desk}
 use Rattle.text.specs.declared.desk.Told.{Told}
@@ -104,7 +103,7 @@ pub record Reads (reader : Reader) (block out : List ℕ) (r : Left) (out' : Lis
 
 -- the answer to a call, and to the input's end
 abbrev pub fed_by : Left → Fed
-fed_by r = record { reader = left_by r; used = r.used; printed = Length r.printed }
+fed_by r = record { reader = left_by r; used = r.used; printed = Ok r.printed }
 
 abbrev pub ended_by : Gatherer → Told → Fed
 ended_by gatherer told = record { reader = reader_with gatherer told.desk; used = 0; printed = told.printed }

@@ -6,16 +6,19 @@ ghost use Rattle.std.specs.Prelude.{◌≡◌, List, ◌+◌, ◌-◌, ◌≤◌
 ghost use Rattle.lines.specs.Gathering.{gathered_of};
 ghost use Rattle.lines.specs.Handing.{held_by};
 ghost use Rattle.settlement.specs.Bare.{whole_of, with_more};
-ghost use Rattle.sheets.specs.Buffer.{buffer_length, length_of};
-ghost use Rattle.text.specs.Desk.{Tells, line_turn, quarter_turn, room_at, closed_at};
+ghost use Rattle.sheets.specs.Buffer.{buffer_length};
+ghost use Rattle.text.specs.Desk.{Tells, line_turn, quarter_turn, room_at};
 ghost use Rattle.feed.specs.Reader.{empty_reader, feed_of, finish_of, Yields};
+ghost use Rattle.vocabulary.specs.Stage.{closed_at};
 ghost use Rattle.feed.specs.Steps.{reader_with, desk_with, line_found, Finds, turn_by, Steps, after_of, goes_on, left_of, Reads, fed_by, ended_by};
 
 use lines::Gatherer;
 use samples::read_samples;
 use settlement::bare::Bare;
-use sheets::{BUFFER, Printed};
-use text::desk::{Desk, Stage, Told, samples};
+use sheets::BUFFER;
+use text::desk::{Desk, Told, samples};
+use vocabulary::refusal::Refusal;
+use vocabulary::stage::Stage;
 
 // The line at hand, and the desk.
 #[derive(Clone, Copy)]
@@ -30,7 +33,7 @@ pub struct Reader {
 pub struct Fed {
     pub reader: Reader,
     pub used: usize,
-    pub printed: Printed,
+    pub printed: Result<usize, Refusal>,
 }
 
 // What stands next in a block, and in how many bytes: a stretch of samples, a line with its end, or the rest of a block that ends within one. The
@@ -66,30 +69,13 @@ struct Moved {
     printed: usize,
 }
 
-fn length_of(printed: Printed) -> usize
-    ensures { result ≡ length_of printed }
-{
-    match printed {
-        Printed::Length(n) => n,
-        Printed::TooShort => 0,
-    }
-}
-
-// A line of which so many bytes are kept.
-fn told(desk: Desk, number: u64, bytes: &[u8], kept: usize, out: &mut [u8]) -> Told
-    ensures { Tells out.old desk (line_turn desk number (take kept bytes.now)) result out.new }
-{
-    if kept < bytes.len() {
-        return desk.line(number, &bytes[..kept], out);
-    }
-    desk.line(number, bytes, out)
-}
-
+// The line that a gatherer holds.
 fn line_told(desk: Desk, gatherer: Gatherer, out: &mut [u8]) -> Told
     ensures { Tells out.old desk (line_turn desk gatherer.count (held_by gatherer)) result out.new }
 {
     let bytes = gatherer.bytes();
-    told(desk, gatherer.count(), &bytes, gatherer.length(), out)
+    let kept = gatherer.length().min(bytes.len());
+    desk.line(gatherer.count(), &bytes[..kept], out)
 }
 
 // On to the next line end, or to the end of the block.
@@ -98,9 +84,8 @@ fn line_at(gatherer: Gatherer, block: &[u8], at: usize) -> Found
     ensures { result ≡ line_found (gathered_of gatherer (drop at block.now)) }
 {
     let part = gatherer.gather(&block[at..]);
-    let at_hand = part.gatherer;
     Found {
-        gatherer: at_hand,
+        gatherer: part.gatherer,
         used: part.used,
         samples: 0,
         complete: part.complete,
@@ -111,25 +96,10 @@ fn line_at(gatherer: Gatherer, block: &[u8], at: usize) -> Found
 fn room(desk: BareDesk) -> usize
     ensures { (sp ac : List ℤ) → result ≡ room_at desk.stage (whole_of desk.bare sp ac) }
 {
-    let stage = desk.stage;
-    let bare = desk.bare;
-    match stage {
-        Stage::Empty => 0,
-        Stage::Open => bare.room(),
-        Stage::Closed => 0,
+    if desk.stage.is_open() {
+        return desk.bare.room();
     }
-}
-
-// Whether the end or a refusal was printed.
-fn is_closed(desk: BareDesk) -> bool
-    ensures { result ≡ closed_at desk.stage }
-{
-    let stage = desk.stage;
-    match stage {
-        Stage::Empty => false,
-        Stage::Open => false,
-        Stage::Closed => true,
-    }
+    0
 }
 
 // As many samples as there are and the quarter hour takes, where a line starts, else a line. Their powers go straight to their places, after those that count.
@@ -177,14 +147,12 @@ fn counted(
     let mut longer = bare;
     longer.filled = bare.filled + count;
     let told = samples(longer, setpoints, actuals, out);
-    let after = told.bare;
-    let printed = told.printed;
     Stepped {
         desk: BareDesk {
-            bare: after,
+            bare: told.bare,
             stage: Stage::Open,
         },
-        printed: length_of(printed),
+        printed: told.printed.unwrap_or(0),
     }
 }
 
@@ -200,20 +168,17 @@ fn served(
     ensures { Steps out.old (line_turn (desk_with desk setpoints.old actuals.old) gatherer.count (held_by gatherer)) result
         setpoints.new actuals.new out.new }
 {
-    let bare = desk.bare;
-    let stage = desk.stage;
-    let run = bare.whole(setpoints, actuals);
-    let told = line_told(Desk { run, stage }, gatherer, out);
-    let whole = told.desk;
-    let after = whole.run;
-    let now = whole.stage;
-    let printed = told.printed;
+    let whole = Desk {
+        run: desk.bare.whole(setpoints, actuals),
+        stage: desk.stage,
+    };
+    let told = line_told(whole, gatherer, out);
     Stepped {
         desk: BareDesk {
-            bare: after.apart(setpoints, actuals),
-            stage: now,
+            bare: told.desk.run.apart(setpoints, actuals),
+            stage: told.desk.stage,
         },
-        printed: length_of(printed),
+        printed: told.printed.unwrap_or(0),
     }
 }
 
@@ -232,12 +197,10 @@ fn told_of(
 {
     let n = found.samples;
     if 0 < n {
-        let bare = desk.bare;
-        return counted(bare, n, setpoints, actuals, out);
+        return counted(desk.bare, n, setpoints, actuals, out);
     }
     if found.complete {
-        let gatherer = found.gatherer;
-        return served(desk, gatherer, setpoints, actuals, out);
+        return served(desk, found.gatherer, setpoints, actuals, out);
     }
     Stepped { desk, printed: 0 }
 }
@@ -246,24 +209,17 @@ fn told_of(
 fn after(found: Found) -> Gatherer
     ensures { result ≡ after_of found }
 {
-    let gatherer = found.gatherer;
     if found.complete {
-        return gatherer.fresh();
+        return found.gatherer.fresh();
     }
-    gatherer
+    found.gatherer
 }
 
 // Whether a call goes on: nothing is printed yet, the desk is open, and the block has not ended.
 fn goes_on(printed: usize, closed: bool, at: usize, end: usize) -> bool
     ensures { result ≡ goes_on printed closed at end }
 {
-    if 0 < printed {
-        return false;
-    }
-    if closed {
-        return false;
-    }
-    at < end
+    printed == 0 && !closed && at < end
 }
 
 // On until something is printed, the desk is closed, or the block ends. The desk stays in what came of the last step, and there is one way out: else it would
@@ -286,27 +242,23 @@ fn read_on(
         printed: 0,
     };
     let mut i = 0;
-    let mut on = goes_on(0, is_closed(step.desk), 0, block.len());
-    while on {
-        let filled = step.desk.bare.filled;
+    while goes_on(step.printed, step.desk.stage.is_closed(), i, block.len()) {
         let found = next(
             gatherer,
             block,
             i,
             setpoints,
             actuals,
-            filled,
+            step.desk.bare.filled,
             room(step.desk),
         );
         step = told_of(step.desk, found, setpoints, actuals, out);
         gatherer = after(found);
         i += found.used;
-        on = goes_on(step.printed, is_closed(step.desk), i, block.len());
     }
-    let desk = step.desk;
     Moved {
         gatherer,
-        desk,
+        desk: step.desk,
         used: i,
         printed: step.printed,
     }
@@ -316,30 +268,30 @@ fn read_on(
 fn fed_by(moved: Moved, setpoints: &[i32; 900], actuals: &[i32; 900]) -> Fed
     ensures { result ≡ fed_by (left_of moved setpoints.now actuals.now) }
 {
-    let gatherer = moved.gatherer;
-    let desk = moved.desk;
-    let bare = desk.bare;
-    let stage = desk.stage;
-    let run = bare.whole(setpoints, actuals);
+    let desk = Desk {
+        run: moved.desk.bare.whole(setpoints, actuals),
+        stage: moved.desk.stage,
+    };
     Fed {
         reader: Reader {
-            gatherer,
-            desk: Desk { run, stage },
+            gatherer: moved.gatherer,
+            desk,
         },
         used: moved.used,
-        printed: Printed::Length(moved.printed),
+        printed: Ok(moved.printed),
     }
 }
 
 fn ended_by(gatherer: Gatherer, told: Told) -> Fed
     ensures { result ≡ ended_by gatherer told }
 {
-    let desk = told.desk;
-    let printed = told.printed;
     Fed {
-        reader: Reader { gatherer, desk },
+        reader: Reader {
+            gatherer,
+            desk: told.desk,
+        },
         used: 0,
-        printed,
+        printed: told.printed,
     }
 }
 
@@ -358,8 +310,7 @@ impl Reader {
     pub fn is_closed(self) -> bool
         ensures { result ≡ closed_at self.desk.stage }
     {
-        let desk = self.desk;
-        desk.is_closed()
+        self.desk.is_closed()
     }
 
     // A block of the input, from its start on: up to the end of the first line for which something is printed, or to the end or the
@@ -371,18 +322,23 @@ impl Reader {
             return Fed {
                 reader: self,
                 used: 0,
-                printed: Printed::TooShort,
+                printed: Err(Refusal::BufferTooShort),
             };
         }
         let mut setpoints = [0i32; 900];
         let mut actuals = [0i32; 900];
-        let gatherer = self.gatherer;
-        let desk = self.desk;
-        let stage = desk.stage;
-        let run = desk.run;
-        let bare = run.apart(&mut setpoints, &mut actuals);
-        let opened = BareDesk { bare, stage };
-        let moved = read_on(gatherer, opened, block, &mut setpoints, &mut actuals, out);
+        let opened = BareDesk {
+            bare: self.desk.run.apart(&mut setpoints, &mut actuals),
+            stage: self.desk.stage,
+        };
+        let moved = read_on(
+            self.gatherer,
+            opened,
+            block,
+            &mut setpoints,
+            &mut actuals,
+            out,
+        );
         fed_by(moved, &setpoints, &actuals)
     }
 
@@ -394,12 +350,10 @@ impl Reader {
             return Fed {
                 reader: self,
                 used: 0,
-                printed: Printed::TooShort,
+                printed: Err(Refusal::BufferTooShort),
             };
         }
-        let gatherer = self.gatherer;
-        let desk = self.desk;
-        let answer = desk.finish(gatherer.count(), out);
-        ended_by(gatherer, answer)
+        let answer = self.desk.finish(self.gatherer.count(), out);
+        ended_by(self.gatherer, answer)
     }
 }

@@ -1,11 +1,14 @@
 -- A line split field by field, and its fields by what is held of them.
+use Rattle.std.proofs.Common.{Bor, Option, Some, None, unwrap_or, ⊎_elim, lt_of_not-le}
+use Rattle.std.specs.Slice.{IsGetRangeResult}
+use native.Mathlib.Decide.{dec_le}
 use Prim.Native.Nat.{ℕ, zero, suc, ◌+◌, ◌-◌, ◌≤◌, ◌<◌}
 use mathlib.Core.Path.{◌≡◌, refl, sym, ap, ◌∙◌}
 use mathlib.Core.List.{List, [], ◌∷◌}
 use native.Mathlib.Omega.{arith}
 use native.Mathlib.Numerals.{add-one}
 use native.Mathlib.Decide.{ℕ_discrete}
-use borrow.Author.Tests.{le-leb}
+use borrow.Author.Tests.{le-leb, lt-leb}
 use lib.ListN.{length, get_or, set, take, drop, length-set, length-drop, length-replicate, get_or-replicate}
 use lib.Seq.{sets, length-take-le, set_out, get_or-set_same, get_or-set_other}
 use Rattle.fields.specs.Fields.{fields, field_at}
@@ -133,3 +136,14 @@ field-held line k h =
 pub split-count : (line : List ℕ) {split : Split} → split ≡ split_of line → split.count ≡ length (fields line)
 unfolding split_of
 split-count line same = ap (λ (s : Split). s.count) same
+
+-- a part of a line that may be lent: nothing where the line is shorter, or the part ends before it begins
+pub lent-part : (r : Option (Bor (List ℕ))) (d : Bor (List ℕ)) (place : Place) (line : List ℕ) → d.now ≡ []
+    → IsGetRangeResult line place.from place.to r → (unwrap_or r d).now ≡ bytes_at place line
+unfolding bytes_at
+lent-part (Some x) d place line e h = rw (le-leb _ _ h.0.1) h.0.2
+lent-part None d place line e h =
+    elim (dec_le place.to (length line)) [
+      | yes l ↦ let none : place.to - place.from ≡ 0 = ⊎_elim (λ (a : place.to < place.from). omega arith) (λ (a : length line < place.to). omega arith) h.0 in rw (le-leb _ _ l, none) e
+      | no l ↦ rw (lt-leb _ _ (lt_of_not-le l)) e
+    ]

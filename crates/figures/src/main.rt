@@ -24,17 +24,15 @@ fn uga_after(kw: i32, samples: u32) -> Units
     ensures { result.0 ≡ uga_of One 5000 fresh (jump kw samples) }
 {
     let mut channel = Channel::new(Interval::One, 5_000);
-    let mut second: u32 = 0;
-    while second < samples {
+    for second in 0..samples {
         channel = channel.follow(setpoint_at(kw, second));
-        second += 1;
     }
     channel.uga()
 }
 
 // A line: the second, counted from 0, and UGA there, which none of these figures has below 0.
 fn line(rt: &impl Print, kw: i32, second: u16) -> io::Result<()> {
-    let uga = uga_after(kw, (second as u32) + 1);
+    let uga = uga_after(kw, u32::from(second) + 1);
     let units = positive_part(uga.0);
     println!(rt; "UGA {second} {units}")
 }

@@ -53,10 +53,10 @@ newest-later s [] h = absurd (omega arith)
 newest-later s (t ∷ ss) h = refl
 
 no_end : (s : ℤ) → L.Setpoint s ≡ L.End → ⊥
-no_end s e = let z : ◌≡◌ {A = ℕ} 0 1 = cc in omega arith
+no_end s e = cc
 
 bounds-no-end : (b : Block) → bounds_line b ≡ L.End → ⊥
-bounds-no-end b e = let z : ◌≡◌ {A = ℕ} 0 1 = cc in omega arith
+bounds-no-end b e = cc
 
 -- ---- the setpoints that a block lacks, of which the newest lies between its bounds
 

@@ -1,6 +1,6 @@
 -- What is printed of a block is read as that block, line by line.
 -- Assumes nothing.
-use Prim.Native.Nat.{ℕ, ◌+◌, ◌≤◌}
+use Prim.Native.Nat.{ℕ, ◌≤◌}
 use mathlib.Core.Path.{◌≡◌, refl, sym, ap, ap₂, ◌∙◌}
 use mathlib.Core.Bool.{true}
 use mathlib.Core.List.{List, [], ◌∷◌, ◌++◌, append_assoc, append-nil}
@@ -29,20 +29,27 @@ use Rattle.meaning.specs.Endings.{Each, of_none, of_more}
 use Rattle.join.specs.Says.{bounds_line, block_lines}
 use Rattle.join.proofs.NumberBack.{Visible, number-visible, number-back, number_short}
 
--- ---- fields that were parted by tabs are found again
+-- ---- fields of bytes that are no tabs, parted by tabs, are found again
 
-fields-one : {f : List ℕ} → Each Visible f → fields f ≡ f ∷ []
-fields-one of_none = fields-none
-fields-one (of_more {x = x} {xs = f} v vs) = fields-other x f (λ e. omega arith) ∙ ap (on_first x) (fields-one vs)
+module _ {P : ℕ → Type 0} (no-tab : (x : ℕ) → P x → x ≡ 9 → ⊥) where
+  fields-one : {f : List ℕ} → Each P f → fields f ≡ f ∷ []
+  fields-one of_none = fields-none
+  fields-one (of_more {x = x} {xs = f} v vs) = fields-other x f (no-tab x v) ∙ ap (on_first x) (fields-one vs)
 
-fields-more : {f : List ℕ} (rest : List ℕ) → Each Visible f → fields (f ++ (9 ∷ rest)) ≡ f ∷ fields rest
-fields-more rest of_none = fields-tab 9 rest refl
-fields-more rest (of_more {x = x} {xs = f} v vs) = fields-other x (f ++ (9 ∷ rest)) (λ e. omega arith) ∙ ap (on_first x) (fields-more rest vs)
+  fields-more : {f : List ℕ} (rest : List ℕ) → Each P f → fields (f ++ (9 ∷ rest)) ≡ f ∷ fields rest
+  fields-more rest of_none = fields-tab 9 rest refl
+  fields-more rest (of_more {x = x} {xs = f} v vs) = fields-other x (f ++ (9 ∷ rest)) (no-tab x v) ∙ ap (on_first x) (fields-more rest vs)
+
+  pub fields-parted : {f : List ℕ} {fs : List (List ℕ)} → Each P f → Each (Each P) fs → fields (f ++ tabbed fs) ≡ f ∷ fs
+  unfolding tabbed
+  fields-parted {f} v of_none = ap fields (append-nil f) ∙ fields-one v
+  fields-parted {f} v (of_more {x = g} {xs = fs} w ws) = fields-more (g ++ tabbed fs) v ∙ ap (λ (l : List (List ℕ)). f ∷ l) (fields-parted w ws)
+
+visible-no-tab : (x : ℕ) → Visible x → x ≡ 9 → ⊥
+visible-no-tab x v e = omega arith
 
 pub fields_back : {f : List ℕ} {fs : List (List ℕ)} → Each Visible f → Each (Each Visible) fs → fields (f ++ tabbed fs) ≡ f ∷ fs
-unfolding tabbed
-fields_back {f} v of_none = ap fields (append-nil f) ∙ fields-one v
-fields_back {f} v (of_more {x = g} {xs = fs} w ws) = fields-more (g ++ tabbed fs) v ∙ ap (λ (l : List (List ℕ)). f ∷ l) (fields_back w ws)
+fields_back v vs = fields-parted visible-no-tab v vs
 
 -- ---- and have no LF
 

@@ -122,7 +122,7 @@ deal-accepted g c identifier s l n p m =
 -- ---- one after the other, after a header and a start that lacks nothing
 
 no_end : (c : Contract) → L.Contract c ≡ L.End → ⊥
-no_end c e = let z : ◌≡◌ {A = ℕ} 0 1 = cc in omega arith
+no_end c e = cc
 
 module _ (header : Header) (start : Start) (full : lacking start (windows_of (interval_of (up header.interval))).to ≡ false) where
   -- with the contracts so far

@@ -20,13 +20,14 @@ use Rattle.reading.specs.Line.{line_of}
 use Rattle.lines.proofs.LineLaws.{NoLf, ended, read_back, written}
 use Rattle.meaning.specs.Given.{Given, with_start, interval_in, quarters_in, block_in}
 use Rattle.meaning.specs.Meaning.{these, lacks, all_samples, header_text, end_text, settled}
-use Rattle.meaning.specs.Endings.{quarters_text, whole, ending_of, FairStart, Each, of_none, of_more, Proper, AcceptedInput}
+use Rattle.meaning.specs.Endings.{quarters_text, whole, ending_of, FairStart, Proper, AcceptedInput}
 use Rattle.meaning.proofs.Endings.{ends}
 use Rattle.meaning.proofs.Inputs.{accepted-input}
 use Rattle.join.specs.Join.{Alike, Joins, JoinedSheets, HeaderForBoth, both_given, both_closing, JoinedInput}
 use Rattle.join.specs.Says.{block_lines, Says}
 use Rattle.join.proofs.Sheets.{joined-sheets}
 use Rattle.join.proofs.Accepting.{first-same, rest-same}
+use Rattle.join.proofs.NumberBack.{each_both}
 use Rattle.join.proofs.BlockBack.{block_back, behind-line}
 use Rattle.join.proofs.BlockAccepted.{accepted-whole, handed-acceptable}
 use Rattle.join.proofs.SaidAccepted.{full_start, said-ends}
@@ -107,10 +108,6 @@ pub printed-block-put-in : {x : List ℕ} {a b : Given} (line rest : List ℕ) �
 printed-block-put-in {x} {a} {b} line rest accepted other one new same = block-put-in b (block_in a) line rest (rw same (handed-acceptable x a accepted)) new one other
 
 -- ---- two inputs, and one over both
-
-each_both : {X : Type 0} {P : X → Type 0} {xs ys : List X} → Each P xs → Each P ys → Each P (xs ++ ys)
-each_both of_none qs = qs
-each_both (of_more p ps) qs = of_more p (each_both ps qs)
 
 -- as many samples as both have
 both-sizes : (q r : ℕ) {s x y z : ℕ} → z ≡ x → z ≡ y → s ≡ q + r → q * x + r * y ≡ s * z

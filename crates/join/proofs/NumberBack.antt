@@ -14,10 +14,9 @@ use lib.ListN.{length, get_or, length-append, get_or-append}
 use Rattle.arithmetic.specs.Whole.{up, down}
 use Rattle.print.specs.Decimal.{last_digit, digits_in, digits, number_text}
 use Rattle.print.proofs.Digits.{digits-one, digits_more, digits-length}
+use Rattle.std.specs.Prelude.{Option, Some, None}
+use Rattle.std.proofs.lemmas.Option.{none-some, same_Some}
 use Rattle.fields.specs.Numbers.{is_digit, value_from, digits_of, unsigned_of, negative, plain, long_number_of}
-use Rattle.fields.specs.declared.number.Digits.{Digits}
-use Rattle.fields.specs.declared.number.Digits.TheVariants.{Value, Other}
-use Rattle.fields.specs.declared.number.LongNumber.TheVariants as Long
 use Rattle.fields.proofs.SignLaws.{no_minus}
 use Rattle.meaning.specs.Endings.{Each, of_none, of_more}
 
@@ -25,14 +24,15 @@ use Rattle.meaning.specs.Endings.{Each, of_none, of_more}
 in_order : {X : Type 0} (a b : ℕ) → (a < b → X) → (b ≤ a → X) → X
 in_order a b f g = elim (dec_le b a) [ yes h ↦ g h | no h ↦ f (lt_of_not-le h) ]
 
+-- what holds of each of some and of others holds of each of both
+pub each_both : {X : Type 0} {P : X → Type 0} {xs ys : List X} → Each P xs → Each P ys → Each P (xs ++ ys)
+each_both of_none qs = qs
+each_both (of_more p ps) qs = of_more p (each_both ps qs)
+
 -- ---- a byte that is neither a tab nor an LF: those of a number are digits and a minus
 
 abbrev pub Visible : ℕ → Type 0
 Visible byte = 45 ≤ byte
-
-each-end : {xs : List ℕ} → Each Visible xs → (x : ℕ) → Visible x → Each Visible (xs ++ (x ∷ []))
-each-end of_none x v = of_more v of_none
-each-end (of_more p ps) x v = of_more p (each-end ps x v)
 
 digits-visible : (f n : ℕ) → Each Visible (digits_in f n)
 unfolding digits_in
@@ -41,7 +41,7 @@ digits-visible (suc f) n = go (ltb n 10) (digits-visible f (n / 10))
   where
     go : (t : Bool) → Each Visible (digits_in f (n / 10)) → Each Visible (cond t (last_digit n) (digits_in f (n / 10) ++ last_digit n))
     go true p = let v : Visible (48 + n % 10) = omega arith in of_more v of_none
-    go false p = each-end p (48 + n % 10) (omega arith)
+    go false p = let v : Visible (48 + n % 10) = omega arith in each_both p (of_more v of_none)
 
 -- so is each byte of a number
 pub number-visible : (z : ℤ) → Each Visible (number_text z)
@@ -54,19 +54,16 @@ number-visible (negsuc n) = let v : Visible 45 = omega arith in of_more v (digit
 digit-is : (d : ℕ) → d < 10 → is_digit (48 + d) ≡ true
 digit-is d h = rw (le-leb 48 (48 + d) (omega arith), le-leb (48 + d) 57 (omega arith))
 
-same-value : (v w : ℕ) → Value v ≡ Value w → v ≡ w
-same-value v w e = cc
-
 -- a byte that was a digit still is
-onward : (t : Bool) (a b : Digits) (v w : ℕ) → cond t a Other ≡ Value v → (a ≡ Value v → b ≡ Value w) → cond t b Other ≡ Value w
+onward : (t : Bool) (a b : Option ℕ) (v w : ℕ) → cond t a None ≡ Some v → (a ≡ Some v → b ≡ Some w) → cond t b None ≡ Some w
 onward true a b v w e f = f e
-onward false a b v w e f = let z : ◌≡◌ {A = ℕ} 0 1 = cc in absurd (omega arith)
+onward false a b v w e f = absurd (none-some v e)
 
 -- one digit more
-value-end : (v w d : ℕ) (xs : List ℕ) → d < 10 → value_from v xs ≡ Value w → value_from v (xs ++ ((48 + d) ∷ [])) ≡ Value (w * 10 + d)
+value-end : (v w d : ℕ) (xs : List ℕ) → d < 10 → value_from v xs ≡ Some w → value_from v (xs ++ ((48 + d) ∷ [])) ≡ Some (w * 10 + d)
 unfolding value_from
 value-end v w d [] h e =
-    let same : v ≡ w = same-value v w e in
+    let same : v ≡ w = same_Some v w e in
     let back : 48 + d - 48 ≡ d = omega arith in
     rw (digit-is d h, same, back)
 value-end v w d (x ∷ xs) h e =
@@ -74,7 +71,7 @@ value-end v w d (x ∷ xs) h e =
     onward (is_digit x) (value_from next xs) (value_from next (xs ++ ((48 + d) ∷ []))) w (w * 10 + d) e (value-end next w d xs h)
 
 -- by any number k above n
-value-back : (k n : ℕ) → n < k → value_from 0 (digits n) ≡ Value n
+value-back : (k n : ℕ) → n < k → value_from 0 (digits n) ≡ Some n
 unfolding value_from
 value-back zero n h = absurd (omega arith)
 value-back (suc k) n h =
@@ -82,7 +79,7 @@ value-back (suc k) n h =
     (λ s. let back : 0 * 10 + (48 + n - 48) ≡ n = omega arith in rw (digits-one n s, digit-is n s, back))
     (λ s.
     let whole : n / 10 * 10 + n % 10 ≡ n = omega arith in
-    rw (digits_more n s) (value-end 0 (n / 10) (n % 10) (digits (n / 10)) (omega arith) (value-back k (n / 10) (omega arith)) ∙ ap Value whole))
+    rw (digits_more n s) (value-end 0 (n / 10) (n % 10) (digits (n / 10)) (omega arith) (value-back k (n / 10) (omega arith)) ∙ ap Some whole))
 
 -- there is a first digit, and it is not 0 unless the number is
 record Leads (n : ℕ) : Type 0 where
@@ -109,7 +106,7 @@ leads (suc k) n h =
 -- ---- a number of at most `most` digits, without its sign
 
 module _ (most n : ℕ) (few : length (digits n) ≤ most) (small : most ≤ 18) where
-  one-back : n < 10 → unsigned_of most (digits n) ≡ Value n
+  one-back : n < 10 → unsigned_of most (digits n) ≡ Some n
   unfolding unsigned_of digits_of
   one-back s =
       let e : length (digits n) ≡ 1 = ap length (digits-one n s) in
@@ -121,7 +118,7 @@ module _ (most n : ℕ) (few : length (digits n) ≤ most) (small : most ≤ 18)
       )
       (value-back (suc n) n (omega arith))
 
-  more-back : 10 ≤ n → unsigned_of most (digits n) ≡ Value n
+  more-back : 10 ≤ n → unsigned_of most (digits n) ≡ Some n
   unfolding unsigned_of digits_of
   more-back s =
       let l = leads (suc n) n (omega arith) in
@@ -136,12 +133,12 @@ module _ (most n : ℕ) (few : length (digits n) ≤ most) (small : most ≤ 18)
       )
       (value-back (suc n) n (omega arith))
 
-  unsigned_back : unsigned_of most (digits n) ≡ Value n
+  unsigned_back : unsigned_of most (digits n) ≡ Some n
   unsigned_back = in_order n 10 one-back more-back
 
 -- ---- A NUMBER IS READ AS WHAT IT WAS PRINTED FOR, with k + 1 digits at most
 
-pub number-back : (k : ℕ) (z : ℤ) → suc k ≤ 18 → up z < 10 ^ suc k → down z < 10 ^ suc k → long_number_of (suc k) (number_text z) ≡ Long.Value z
+pub number-back : (k : ℕ) (z : ℤ) → suc k ≤ 18 → up z < 10 ^ suc k → down z < 10 ^ suc k → long_number_of (suc k) (number_text z) ≡ Some z
 unfolding number_text long_number_of up down
 number-back k (pos n) small u d =
     let l = leads (suc n) n (omega arith) in

@@ -7,12 +7,12 @@ use mathlib.Core.List.{List, [], ◌∷◌, ◌++◌, append_assoc, append-nil}
 use native.Mathlib.Omega.{arith}
 use borrow.Author.Tests.{lt-leb, le-ltb}
 use lib.ListN.{length, length-append}
+use Rattle.std.specs.Prelude.{Ok}
 use Rattle.vocabulary.specs.declared.interval.Interval.{Interval}
 use Rattle.vocabulary.specs.Interval.{windows_of}
 use Rattle.vocabulary.specs.Refusals.{accepted}
 use Rattle.vocabulary.specs.declared.header.Header.{Header}
 use Rattle.vocabulary.specs.declared.sample.Sample.{Sample}
-use Rattle.vocabulary.specs.declared.refusal.Refusal.TheVariants.{None}
 use Rattle.channel.specs.Start.{Start, fresh, carried}
 use Rattle.channel.specs.Acceptable.{AcceptableStart}
 use Rattle.series.specs.Scan.{each}
@@ -31,9 +31,9 @@ use Rattle.join.proofs.DealsAccepted.{dealt, deals-accepted}
 -- ---- the header, and the block where there is one
 
 header-no-end : (h : Header) → L.Header h ≡ L.End → ⊥
-header-no-end h e = let z : ◌≡◌ {A = ℕ} 0 1 = cc in omega arith
+header-no-end h e = cc
 
-header-accepted : (h : Header) (identifier : List ℕ) → header_ground h ≡ None → accepted (ground nothing identifier (L.Header h)) ≡ true
+header-accepted : (h : Header) (identifier : List ℕ) → header_ground h ≡ Ok tt → accepted (ground nothing identifier (L.Header h)) ≡ true
 unfolding grounds
 header-accepted h identifier e = rw e
 
@@ -52,7 +52,7 @@ start-accepted h (carried b) lines a e = block-lines-accepted (headed h) b refl 
 -- ---- the samples
 
 sample-no-end : (x : Sample) → L.Sample x ≡ L.End → ⊥
-sample-no-end x e = let z : ◌≡◌ {A = ℕ} 0 1 = cc in omega arith
+sample-no-end x e = cc
 
 sample-accepted : (g : Given) (x : Sample) (identifier : List ℕ) → lacks g ≡ false → length g.samples < all_samples g → FairSample x
     → accepted (ground (these g) identifier (L.Sample x)) ≡ true

@@ -1,6 +1,5 @@
 -- Two runs of which the second starts from the block that the first hands on, and the one run over both (docs/RULES.md, 'The start').
-use Rattle.std.specs.Prelude.{ℕ, ◌+◌, ◌<◌, ◌≡◌, List, ◌++◌, ℤ, ◌+ℤ◌, length}
-use Rattle.vocabulary.specs.declared.refusal.Refusal.TheVariants.{None}
+use Rattle.std.specs.Prelude.{ℕ, ◌+◌, ◌<◌, ◌≡◌, List, ◌++◌, ℤ, ◌+ℤ◌, length, Ok}
 use Rattle.vocabulary.specs.declared.header.Header.{Header}
 use Rattle.sheets.specs.Sheet.{closing_text}
 use Rattle.channel.specs.Start.{carried}
@@ -48,7 +47,7 @@ pub record JoinedSheets (a b g : Given) : Type 0 where
 
 -- A HEADER FOR BOTH: in range, with their interval and lot, and as many quarter hours as both have
 pub record HeaderForBoth (a b : Given) (h : Header) : Type 0 where
-  pub good : header_ground h ≡ None
+  pub good : header_ground h ≡ Ok tt
   pub interval : interval_in (headed h) ≡ interval_in a
   pub lot : lot_in (headed h) ≡ lot_in a
   pub quarters : quarters_in (headed h) ≡ quarters_in a + quarters_in b

@@ -1,14 +1,15 @@
 -- How a direction of a quarter hour is looked at, and one quarter hour after the other.
 -- Assumes nothing.
-use Prim.Native.Nat.{ℕ, suc, ◌+◌, ◌-◌, ◌≤◌, ◌<◌}
+use Rattle.std.specs.Prelude.{min}
+use native.Mathlib.Decide.{dec_lt}
+use Prim.Native.Nat.{ℕ, zero, suc, ◌+◌, ◌-◌, ◌≤◌, ◌<◌}
 use mathlib.Core.Path.{◌≡◌, refl, sym, ap, ◌∙◌}
 use mathlib.Core.Bool.{true, false, cond}
 use mathlib.Core.List.{List, [], ◌∷◌, ◌++◌}
 use native.Mathlib.Omega.{arith}
-use native.Mathlib.Numerals.{add-one}
 use lib.IntN.{ℤ, pos}
-use lib.ListN.{length, take, get_or, set, replicate}
-use lib.Seq.{set_at, take-suc, take_all, length-take-le, append_snoc}
+use lib.ListN.{length, take, drop, replicate, length-drop, drop_of_length-le}
+use lib.Seq.{take_all, length-take-le}
 use Rattle.arithmetic.specs.Energy.{kwh}
 use Rattle.series.specs.Scan.{each}
 use Rattle.shares.specs.Shares.{amounts}
@@ -19,25 +20,49 @@ use Rattle.sheets.specs.declared.verdict.Verdict.TheVariants.{Accepted, Failing}
 use Rattle.judging.specs.Kept.{Kept}
 use Rattle.judging.specs.Judged.{filled_out, holds_in, verdict_from}
 
--- ---- shares from a place on, written one after the other into 32 places
+-- ---- shares from a place on, over 32 zeros
 
-pub filled_none : filled_out [] ≡ replicate 32 (pos 0)
+blanks-left : (n k : ℕ) (z : ℤ) → drop k (replicate n z) ≡ replicate (n - k) z
+blanks-left n zero z = let e : n - 0 ≡ n = omega arith in rw e
+blanks-left zero (suc k) z = let e : 0 - suc k ≡ 0 = omega arith in rw e
+blanks-left (suc n) (suc k) z = let e : suc n - suc k ≡ n - k = omega arith in rw e (blanks-left n k z)
+
+pub least-take : {A : Type 0} (l : List A) (n : ℕ) → take (min n (length l)) l ≡ take n l
+least-take l n =
+    elim (dec_lt n (length l)) [
+      | yes h ↦ let e : min n (length l) ≡ n = omega arith in rw e
+      | no h ↦ let e : min n (length l) ≡ length l = omega arith in rw (e, take_all (length l) l (omega arith), take_all n l (omega arith))
+    ]
+
+pub least-drop : (l : List ℤ) (n : ℕ) → drop (min n (length l)) l ≡ drop n l
+least-drop l n =
+    elim (dec_lt n (length l)) [
+      | yes h ↦ let e : min n (length l) ≡ n = omega arith in rw e
+      | no h ↦
+          let e : min n (length l) ≡ length l = omega arith in
+          let all : length l ≤ length l = omega arith in
+          let past : length l ≤ n = omega arith in
+          ap (λ (k : ℕ). drop k l) e ∙ drop_of_length-le l all ∙ sym (drop_of_length-le l past)
+    ]
+
+-- the first n of them, as far as there are so many, over 32 zeros
+pub filled-first : (l : List ℤ) (n held : ℕ) → held ≡ min n (length l) → take held l ++ drop held (replicate 32 (pos 0)) ≡ filled_out (take n l)
 unfolding filled_out
-filled_none = refl
+filled-first l n held e =
+    let m : length (take held l) ≡ held = length-take-le held l (omega arith) in
+    let same : take held l ≡ take n l = ap (λ (k : ℕ). take k l) e ∙ least-take l n in
+    let more : replicate (32 - held) (pos 0) ≡ replicate (32 - length (take held l)) (pos 0) = ap (λ (k : ℕ). replicate (32 - k) (pos 0)) (sym m) in
+    ap (λ (r : List ℤ). take held l ++ r) (blanks-left 32 held (pos 0) ∙ more) ∙ ap (λ (r : List ℤ). r ++ replicate (32 - length r) (pos 0)) same
 
-pub filled_more : (l : List ℤ) (k : ℕ) → k < length l → k < 32 → set (filled_out (take k l)) k (get_or l k (pos 0)) ≡ filled_out (take (k + 1) l)
-unfolding filled_out
-filled_more l k h few =
-    let e : 32 - k ≡ suc (32 - (k + 1)) = omega arith in
-    let n : length (take k l) ≡ k = length-take-le k l (omega arith) in
-    let m : length (take (k + 1) l) ≡ k + 1 = length-take-le (k + 1) l (omega arith) in
-    rw (n, m, e)
-    (set_at (take k l) (pos 0) (replicate (32 - (k + 1)) (pos 0)) (get_or l k (pos 0)) k n
-    ∙ sym (rw (add-one k, take-suc l k (pos 0) h) (append_snoc (take k l) (get_or l k (pos 0)) (replicate (32 - suc k) (pos 0)))))
-
--- there are no more
-pub filled-all : (l : List ℤ) (k n : ℕ) → length l ≤ k → k ≤ n → filled_out (take k l) ≡ filled_out (take n l)
-filled-all l k n h m = let w : length l ≤ n = omega arith in rw (take_all k l h, take_all n l w)
+-- what a direct read of the rest gives
+pub filled-rest : (shares : List ℤ) (from n start held : ℕ) → start ≡ min from (length shares) → held ≡ min n (length (take (length shares - start) (drop start shares)))
+    → take held (take (length shares - start) (drop start shares)) ++ drop held (replicate 32 (pos 0)) ≡ filled_out (take n (drop from shares))
+filled-rest shares from n start held e f =
+    let left : length (drop start shares) ≡ length shares - start = length-drop start shares in
+    let whole : take (length shares - start) (drop start shares) ≡ drop start shares = take_all (length shares - start) (drop start shares) (omega arith) in
+    let rest : take (length shares - start) (drop start shares) ≡ drop from shares = whole ∙ ap (λ (k : ℕ). drop k shares) e ∙ least-drop shares from in
+    ap (λ (l : List ℤ). take held l ++ drop held (replicate 32 (pos 0))) rest
+    ∙ filled-first (drop from shares) n held (f ∙ ap (λ (l : List ℤ). min n (length l)) rest)
 
 -- numbers as energies, and back
 pub kwh-amounts : (l : List ℕ) → amounts (each kwh l) ≡ l

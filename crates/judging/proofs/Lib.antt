@@ -1,2 +1,3 @@
 pub mod JudgedLaws
 pub mod WantedLaws
+pub mod KeptLaws

@@ -1,15 +1,15 @@
 -- What a checker keeps of the quarter hours until their shares come, and the shares as they come (docs/RULES.md, 'Checking shares').
-use Rattle.std.specs.Prelude.{ℕ, ◌+◌, ◌*◌, ◌-◌, cond, List, ℤ, set, replicate}
+use Rattle.std.specs.Prelude.{◌≡◌, ℕ, ◌+◌, ◌*◌, ◌-◌, cond, List, ℤ, set, replicate}
 use Rattle.arithmetic.specs.Whole.{least_of}
 use Rattle.series.specs.Scan.{each}
 use Rattle.vocabulary.specs.declared.direction.Direction.{Direction}
 use Rattle.vocabulary.specs.declared.direction.Direction.TheVariants.{Positive, Negative}
-use Rattle.vocabulary.specs.declared.refusal.Refusal.{Refusal}
-use Rattle.vocabulary.specs.Refusals.{accepted}
+use Rattle.vocabulary.specs.Refusals.{Ruling, accepted}
 use Rattle.quarter.specs.declared.sheet.Figures.{Figures}
 use Rattle.quarter.specs.declared.sheet.Line.{Line}
 use Rattle.quarter.specs.declared.sheet.Sheet.{Sheet}
 use Rattle.quarter.specs.declared.sheet.Sheets.{Sheets}
+use Rattle.judging.specs.declared.kept.Kept.{Kept as Lent}
 
 -- a contract's gap by the figures of its K line: its cap is SO − UN, and the gap the smaller of MI and what the cap has above the smaller of cap and AK; - stops at 0
 unfoldable pub cap_in : Figures → ℕ
@@ -43,6 +43,16 @@ pub record Kept : Type 0 where
 abbrev pub keeping : List (List ℕ) → List ℕ → List ℤ → Kept
 keeping gaps surpluses shares = record { gaps = gaps; surpluses = surpluses; shares = shares }
 
+-- what stands in them
+abbrev pub kept_in : Lent → Kept
+kept_in lent = keeping lent.gaps.now lent.surpluses.now lent.shares.now
+
+-- before a call and after it, the same lists are lent
+pub record SameLists (before after : Lent) : Type 0 where
+  pub gaps : before.gaps.ghost_name ≡ after.gaps.ghost_name
+  pub surpluses : before.surpluses.ghost_name ≡ after.surpluses.ghost_name
+  pub shares : before.shares.ghost_name ≡ after.shares.ghost_name
+
 -- with a direction of a quarter hour, and with both
 abbrev pub with_row : Kept → ℕ → Sheet → Kept
 with_row kept row sheet = keeping (set kept.gaps row (gaps_on sheet)) (set kept.surpluses row sheet.pool.surplus.0) kept.shares
@@ -50,9 +60,9 @@ with_row kept row sheet = keeping (set kept.gaps row (gaps_on sheet)) (set kept.
 unfoldable pub with_sheets : Kept → ℕ → Sheets → Kept
 with_sheets kept q sheets = with_row (with_row kept (row_of q Positive) sheets.positive) (row_of q Negative) sheets.negative
 
--- what is kept where taking gave this refusal
-abbrev pub kept_of : Refusal → Kept → ℕ → Sheets → Kept
-kept_of refusal kept q sheets = cond (accepted refusal) (with_sheets kept q sheets) kept
+-- what is kept where taking gave this ruling
+abbrev pub kept_of : Ruling → Kept → ℕ → Sheets → Kept
+kept_of ruling kept q sheets = cond (accepted ruling) (with_sheets kept q sheets) kept
 
 -- with the share of U line n, counted from 0
 unfoldable pub with_share : Kept → ℕ → ℤ → Kept

@@ -4,8 +4,8 @@ use Rattle.std.specs.Int.Signed.{lt_z}
 use Rattle.arithmetic.specs.Whole.{up}
 use Rattle.vocabulary.specs.declared.direction.Direction.{Direction}
 use Rattle.vocabulary.specs.declared.direction.Direction.TheVariants.{Positive, Negative}
-use Rattle.vocabulary.specs.declared.refusal.Refusal.{Refusal}
 use Rattle.vocabulary.specs.declared.refusal.Refusal.TheVariants.{BadIdentifier, BadBlockLength, MisplacedShare}
+use Rattle.vocabulary.specs.Refusals.{Ruling}
 use Rattle.vocabulary.specs.Grounds.{Ground, on, first}
 use Rattle.contracts.specs.Identifier.{well_formed}
 use Rattle.contracts.specs.Book.{held_of, names_at}
@@ -57,7 +57,7 @@ unfoldable pub is_wanted : Books → ℕ → ℕ → Share → List ℕ → Bool
 is_wanted books quarters n share identifier = ltb n (wanted_in books quarters) && says_place books (place_in books n) share identifier
 
 -- why a U line is refused after E: 7, then 22
-unfoldable pub share_ground : Books → ℕ → ℕ → Share → List ℕ → Refusal
+unfoldable pub share_ground : Books → ℕ → ℕ → Share → List ℕ → Ruling
 share_ground books quarters n share identifier =
     first
     (on BadIdentifier (not (well_formed identifier))
@@ -65,7 +65,7 @@ share_ground books quarters n share identifier =
     ∷ [])
 
 -- and between the header and E: 7, 17 while a block lacks setpoints, and 22
-unfoldable pub early_ground : Run → List ℕ → Refusal
+unfoldable pub early_ground : Run → List ℕ → Ruling
 early_ground run identifier =
     first
     (on BadIdentifier (not (well_formed identifier))

@@ -1,9 +1,8 @@
 // Which U line is wanted next: a quarter hour has as many as there are contracts, those of P before those of N.
 ghost use Rattle.std.specs.Prelude.{◌≡◌, ◌+◌, ◌^◌, ◌<◌, ◌≤◌};
 ghost use Rattle.vocabulary.specs.Refusals.{number_of};
-ghost use Rattle.judging.specs.Wanted.{wanted_in, place_of, is_quarter, same_direction, says_place, is_wanted, share_ground, early_ground};
+ghost use Rattle.judging.specs.Wanted.{wanted_in, place_of, is_quarter, says_place, is_wanted, share_ground, early_ground};
 
-use arithmetic::whole::above_zero;
 use contracts::books::Books;
 use contracts::identifier::well_formed;
 use reading::share::Share;
@@ -29,13 +28,13 @@ fn place_of(positives: usize, negatives: usize, given: usize) -> Place
     let rest = given % all;
     if rest < positives {
         return Place {
-            quarter: quarter,
+            quarter,
             direction: Direction::Positive,
             contract: rest,
         };
     }
     Place {
-        quarter: quarter,
+        quarter,
         direction: Direction::Negative,
         contract: rest - positives,
     }
@@ -44,42 +43,17 @@ fn place_of(positives: usize, negatives: usize, given: usize) -> Place
 fn is_quarter(said: i32, quarter: usize) -> bool
     ensures { result ≡ is_quarter said quarter }
 {
-    if said < 0 {
-        return false;
-    }
-    above_zero(said) as usize == quarter
-}
-
-fn is_positive(direction: Direction) -> bool
-    ensures { result ≡ same_direction direction Direction.Positive }
-{
-    match direction {
-        Direction::Positive => true,
-        Direction::Negative => false,
-    }
-}
-
-fn same_direction(one: Direction, other: Direction) -> bool
-    ensures { result ≡ same_direction one other }
-{
-    match other {
-        Direction::Positive => is_positive(one),
-        Direction::Negative => !is_positive(one),
-    }
+    usize::try_from(said) == Ok(quarter)
 }
 
 fn says_place(books: Books, place: Place, share: Share, identifier: &[u8]) -> bool
     ensures { result ≡ says_place books place share identifier.now }
 {
-    if !is_quarter(share.quarter, place.quarter) {
-        return false;
-    }
-    let said = share.direction;
-    let direction = place.direction;
-    if !same_direction(said, direction) {
-        return false;
-    }
-    books.book(direction).names(place.contract, identifier)
+    is_quarter(share.quarter, place.quarter)
+        && share.direction == place.direction
+        && books
+            .book(place.direction)
+            .names(place.contract, identifier)
 }
 
 // How many U lines so many quarter hours have.
@@ -88,7 +62,7 @@ pub fn wanted(books: Books, quarters: u8) -> usize
 {
     let positives = books.book(Direction::Positive).held();
     let negatives = books.book(Direction::Negative).held();
-    (quarters as usize) * (positives + negatives)
+    usize::from(quarters) * (positives + negatives)
 }
 
 fn is_wanted(books: Books, quarters: u8, given: usize, share: Share, identifier: &[u8]) -> bool
@@ -110,28 +84,28 @@ pub fn share_refusal(
     given: usize,
     share: Share,
     identifier: &[u8],
-) -> Refusal
+) -> Result<(), Refusal>
     ensures is { result ≡ share_ground books quarters given share identifier.now }
     ensures few { number_of result ≡ 0 → given < 2 ^ 32 }
 {
     if !well_formed(identifier) {
-        return Refusal::BadIdentifier;
+        return Err(Refusal::BadIdentifier);
     }
     if !is_wanted(books, quarters, given, share, identifier) {
-        return Refusal::MisplacedShare;
+        return Err(Refusal::MisplacedShare);
     }
-    Refusal::None
+    Ok(())
 }
 
 // Why one is refused before E: it always is.
-pub fn early_refusal(run: Run, identifier: &[u8]) -> Refusal
+pub fn early_refusal(run: Run, identifier: &[u8]) -> Result<(), Refusal>
     ensures { result ≡ early_ground run identifier.now }
 {
     if !well_formed(identifier) {
-        return Refusal::BadIdentifier;
+        return Err(Refusal::BadIdentifier);
     }
     if run.lacks() {
-        return Refusal::BadBlockLength;
+        return Err(Refusal::BadBlockLength);
     }
-    Refusal::MisplacedShare
+    Err(Refusal::MisplacedShare)
 }

@@ -1,7 +1,7 @@
 // Blocks of input bytes become lines, in constant memory, however the input is cut into blocks and whatever bytes it has.
 #![tactic(auto)]
 
-ghost use Rattle.std.specs.Prelude.{◌≡◌, length as size, ◌==◌};
+ghost use Rattle.std.specs.Prelude.{◌≡◌};
 ghost use Rattle.lines.specs.Gathering.{start_at, empty_gatherer, fresh_of, past_of, Starts, gathered_of};
 
 // Each line ends in one LF.
@@ -10,6 +10,7 @@ const LF: u8 = 10;
 const KEPT: usize = 81;
 
 // The line at hand, as far as it was read, and how many complete lines there are so far.
+// Stays an array with a length beside it: there is no heap, and what a gatherer answers is said for any length.
 #[derive(Clone, Copy)]
 pub struct Gatherer {
     bytes: [u8; KEPT],
@@ -19,6 +20,7 @@ pub struct Gatherer {
 
 // What a block gave: if a line is complete, the gatherer holds it and counts it, and `used` bytes of the block were read,
 // its LF the last of them. If not, the whole block was read.
+// `complete` stays a flag: each caller needs `used` in either case.
 #[derive(Clone, Copy)]
 pub struct Gathered {
     pub gatherer: Gatherer,
@@ -35,13 +37,6 @@ fn blank(count: u64) -> Gatherer
         length: 0,
         count,
     }
-}
-
-// The array by itself, since its length is known where it is a parameter.
-fn starts(bytes: [u8; KEPT], length: usize) -> bool
-    ensures { (size bytes ≡ 81) × (result ≡ (length == 0)) }
-{
-    length == 0
 }
 
 impl Gatherer {
@@ -62,33 +57,32 @@ impl Gatherer {
     pub fn past(self, n: u64) -> Gatherer
         ensures { result ≡ past_of n self }
     {
-        blank(std::num::wrapping_add_u64(self.count, n))
+        blank(self.count.wrapping_add(n))
     }
 
     // Whether nothing of a line is at hand.
     pub fn at_start(self) -> bool
         ensures { Starts self result }
     {
-        let bytes = self.bytes;
-        starts(bytes, self.length)
+        self.length == 0
     }
 
-    // Reads on to the end of the line at hand, or of the block. It runs for every byte, so the loop is on plain locals.
+    // Reads on to the end of the line at hand, or of the block. It runs for every byte: one pass looks for the LF and keeps the
+    // byte, on plain locals.
     pub fn gather(self, block: &[u8]) -> Gathered
         ensures { result ≡ gathered_of self block.now }
     {
-        let mut bytes = self.bytes;
-        let mut length = self.length;
-        let count = self.count;
-        let mut i = 0;
-        while i < block.len() {
-            let byte = block[i];
-            if byte == LF {
-                let count = std::num::wrapping_add_u64(count, 1);
+        let Gatherer {
+            mut bytes,
+            mut length,
+            count,
+        } = self;
+        for (i, byte) in block.iter().enumerate() {
+            if *byte == LF {
                 let gatherer = Gatherer {
                     bytes,
                     length,
-                    count,
+                    count: count.wrapping_add(1),
                 };
                 return Gathered {
                     gatherer,
@@ -98,10 +92,9 @@ impl Gatherer {
             }
             let has_room = length < KEPT;
             if has_room {
-                bytes[length] = byte;
+                bytes[length] = *byte;
                 length += 1;
             }
-            i += 1;
         }
         let gatherer = Gatherer {
             bytes,
@@ -110,7 +103,7 @@ impl Gatherer {
         };
         Gathered {
             gatherer,
-            used: i,
+            used: block.len(),
             complete: false,
         }
     }

@@ -1,8 +1,8 @@
 -- How the load of a run stands to the start that was given, and what a channel holds of it while a block is given.
 -- Assumes nothing.
 use Prim.Native.Nat.{ℕ, zero, suc, ◌+◌, ◌<◌}
-use mathlib.Core.Path.{◌≡◌, refl, sym, ap, ◌∙◌}
-use mathlib.Core.Bool.{Bool, true, false, cond, not, ◌&&◌}
+use mathlib.Core.Path.{◌≡◌, refl, sym, ◌∙◌}
+use mathlib.Core.Bool.{Bool, true, false, cond, not}
 use mathlib.Core.List.{List, [], ◌∷◌, ◌++◌}
 use native.Mathlib.Omega.{arith}
 use borrow.Author.Tests.{eq-eqb, ne_eqb, lt-ltb, le-ltb}
@@ -10,21 +10,21 @@ use lib.Dec.{eqb, ltb, eqb-suc-zero}
 use lib.IntN.{ℤ}
 use lib.ListN.{length, length-append}
 use Rattle.arithmetic.specs.Power.{units_of}
-use Rattle.arithmetic.proofs.Booleans.{true-false}
+use Rattle.std.specs.Prelude.{Ok, Err}
 use Rattle.vocabulary.specs.declared.refusal.Refusal.{Refusal}
-use Rattle.vocabulary.specs.declared.refusal.Refusal.TheVariants.{None, WrongMoment, BadBlockLength}
-use Rattle.vocabulary.specs.Refusals.{number_of, accepted}
+use Rattle.vocabulary.specs.declared.refusal.Refusal.TheVariants.{WrongMoment, BadBlockLength}
+use Rattle.vocabulary.specs.Refusals.{Ruling, accepted}
 use Rattle.vocabulary.specs.Grounds.{Ground, on, first}
 use Rattle.vocabulary.specs.declared.interval.Interval.{Interval}
 use Rattle.vocabulary.specs.Interval.{windows_of}
 use Rattle.vocabulary.specs.declared.acceptance.Bounds.{Bounds}
-use Rattle.vocabulary.proofs.Answers.{Answer, is_none, is_some, answer}
+use Rattle.vocabulary.proofs.Answers.{err-refused}
 use Rattle.channel.specs.declared.Channel.{Channel}
 use Rattle.channel.specs.Start.{Block, Start, fresh, carried}
 use Rattle.channel.specs.State.{StandsFor, recalled_of, bounded_of}
 use Rattle.channel.proofs.Loaded.{recalls, bounds_given}
 use Rattle.settlement.specs.declared.load.Load.{Load}
-use Rattle.settlement.specs.Load.{begun_with, one_fewer, between, bounds_refusal, setpoint_refusal}
+use Rattle.settlement.specs.Load.{begun_with, one_fewer, between, bounds_refusal, setpoint_refusal, or_lacking}
 use Rattle.meaning.specs.Given.{Given, block_by, with_newest}
 use Rattle.meaning.specs.Meaning.{untouched, block_size, lacking, lacks, bounds_from, setpoint_from}
 
@@ -68,54 +68,42 @@ held_whole (a_block {b} y e o u) h z = some-held b b.setpoints (omega arith)
 
 -- ---- 17 comes after all other grounds
 
--- grounds that refuse
-abbrev pub refusing : List Ground → Bool
-refusing [] = true
-refusing (ground ∷ grounds) = not (accepted ground.refusal) && refusing grounds
-
 -- a test of what is left, after a refusal
-pub after-all : (refusal : Refusal) (left : ℕ) → accepted refusal ≡ false → cond (eqb left 0) refusal (cond (accepted refusal) BadBlockLength refusal) ≡ refusal
-after-all refusal left f = go (eqb left 0)
+pub after-all : (load : Load) (refusal : Refusal) → or_lacking load (Err refusal) ≡ Err refusal
+after-all load refusal = go (eqb load.left 0)
   where
-    go : (z : Bool) → cond z refusal (cond (accepted refusal) BadBlockLength refusal) ≡ refusal
+    go : (z : Bool) → cond {A = Ruling} z (Err refusal) (cond (accepted (Err refusal)) (Err BadBlockLength) (Err refusal)) ≡ Err refusal
     go true = refl
-    go false = rw f
+    go false = rw (err-refused refusal)
 
-none_of : (z : Bool) → cond z None BadBlockLength ≡ cond (not z) BadBlockLength None
+none_of : (z : Bool) → cond {A = Ruling} z (Ok tt) (Err BadBlockLength) ≡ cond (not z) (Err BadBlockLength) (Ok tt)
 none_of true = refl
 none_of false = refl
 
-not-both : (a b : Bool) → (not a && b) ≡ true → (a ≡ false) × (b ≡ true)
-not-both false b e = (refl, e)
-not-both true b e = absurd (let z : ◌≡◌ {A = ℕ} 0 1 = cc in (omega arith))
-
 -- one ground more before the others
-one-before : (holds : Bool) (refusal rest last : Refusal) (left : ℕ) → accepted refusal ≡ false
-    → cond (eqb left 0) rest (cond (accepted rest) BadBlockLength rest) ≡ last
-    → cond (eqb left 0) (cond holds refusal rest) (cond (accepted (cond holds refusal rest)) BadBlockLength (cond holds refusal rest)) ≡ cond holds refusal last
-one-before true refusal rest last left f e = after-all refusal left f
-one-before false refusal rest last left f e = e
+one-before : (load : Load) (holds : Bool) (refusal : Refusal) (rest last : Ruling) → or_lacking load rest ≡ last
+    → or_lacking load (cond holds (Err refusal) rest) ≡ cond holds (Err refusal) last
+one-before load true refusal rest last e = after-all load refusal
+one-before load false refusal rest last e = e
 
-pub or-last : (grounds : List Ground) (left : ℕ) → refusing grounds ≡ true
-    → cond (eqb left 0) (first grounds) (cond (accepted (first grounds)) BadBlockLength (first grounds)) ≡ first (grounds ++ (on BadBlockLength (not (eqb left 0)) ∷ []))
-or-last [] left r = none_of (eqb left 0)
-or-last (ground ∷ grounds) left r =
-    let t = not-both (accepted ground.refusal) (refusing grounds) r in
-    one-before ground.holds ground.refusal (first grounds) (first (grounds ++ (on BadBlockLength (not (eqb left 0)) ∷ []))) left t.0 (or-last grounds left t.1)
+pub or-last : (load : Load) (grounds : List Ground) → or_lacking load (first grounds) ≡ first (grounds ++ (on BadBlockLength (not (eqb load.left 0)) ∷ []))
+or-last load [] = none_of (eqb load.left 0)
+or-last load (ground ∷ grounds) =
+    one-before load ground.holds ground.refusal (first grounds) (first (grounds ++ (on BadBlockLength (not (eqb load.left 0)) ∷ []))) (or-last load grounds)
 
 -- where nothing is refused, no setpoint is left
-never-none : (refusal : Refusal) → Answer refusal → cond (accepted refusal) BadBlockLength refusal ≡ None → ⊥
-never-none refusal (is_none n) e = omega (arith, ap number_of (ap (λ (r : Refusal). cond (accepted r) BadBlockLength r) (sym n) ∙ e))
-never-none refusal (is_some f) e = true-false (ap accepted (ap (λ (b : Bool). cond b BadBlockLength refusal) (sym f) ∙ e)) f
+never-none : (ruling : Ruling) → cond (accepted ruling) (Err BadBlockLength) ruling ≡ Ok tt → ⊥
+never-none (Ok done) e = cc
+never-none (Err refusal) e = let told : ◌≡◌ {A = Ruling} (Err refusal) (Ok tt) = rw (err-refused refusal) at e in cc
 
-pub none_left : (left : ℕ) (refusal : Refusal) → cond (eqb left 0) refusal (cond (accepted refusal) BadBlockLength refusal) ≡ None → (left ≡ 0) × (refusal ≡ None)
-none_left zero refusal e = (refl, e)
-none_left (suc left) refusal e = absurd (never-none refusal (answer refusal) (rw (eqb-suc-zero left) at e))
+pub none_left : (left : ℕ) (ruling : Ruling) → cond (eqb left 0) ruling (cond (accepted ruling) (Err BadBlockLength) ruling) ≡ Ok tt → (left ≡ 0) × (ruling ≡ Ok tt)
+none_left zero ruling e = (refl, e)
+none_left (suc left) ruling e = absurd (never-none ruling (rw (eqb-suc-zero left) at e))
 
 -- ---- the lines of a block
 
 -- before its moment nothing else of a line counts
-twice : (u : Bool) → cond (not u) WrongMoment WrongMoment ≡ WrongMoment
+twice : (u : Bool) → cond {A = Ruling} (not u) (Err WrongMoment) (Err WrongMoment) ≡ Err WrongMoment
 twice true = refl
 twice false = refl
 

@@ -6,11 +6,12 @@ use mathlib.Core.Bool.{Bool, true, false, not, ◌&&◌}
 use mathlib.Core.List.{List, [], ◌++◌}
 use native.Mathlib.Omega.{arith}
 use borrow.Author.Tests.{not-false, lt-ltb}
-use lib.Dec.{eqb, ltb, lit<, eqb-suc-zero}
+use lib.Dec.{eqb, ltb, eqb-suc-zero}
 use lib.IntN.{ℤ}
 use lib.ListN.{length, length-append}
 use Rattle.arithmetic.proofs.Booleans.{true-false, and-swapped}
-use Rattle.vocabulary.specs.declared.refusal.Refusal.TheVariants.{None, WrongMoment, BadBlockLength}
+use Rattle.std.specs.Prelude.{Ok}
+use Rattle.vocabulary.specs.declared.refusal.Refusal.TheVariants.{WrongMoment, BadBlockLength}
 use Rattle.vocabulary.specs.declared.direction.Direction.TheVariants.{Positive, Negative}
 use Rattle.vocabulary.specs.declared.sample.Sample.{Sample}
 use Rattle.vocabulary.specs.declared.acceptance.Bounds.{Bounds}
@@ -31,7 +32,8 @@ use Rattle.meaning.specs.Given.{Given, with_start, block_by, with_newest, interv
 use Rattle.meaning.specs.Meaning.{untouched, block_size, bounds_ground, setpoint_ground, bounds_grounds, setpoint_grounds}
 use Rattle.meaning.proofs.Blocks.{not-not, held_start, LoadMeets, no_block, a_block, some_left, bounds-refused, setpoint-refused, load-begun, load-fewer, past-recalled}
 use Rattle.meaning.proofs.Deals.{count_of}
-use Rattle.meaning.proofs.Moments.{no_more, none-taken}
+use Rattle.std.proofs.lemmas.List.{nil_from_length}
+use Rattle.meaning.proofs.Moments.{none-taken}
 use Rattle.meaning.proofs.Proper.{none-sampled}
 use Rattle.meaning.proofs.Standing.{BooksMeet, Meets, counted, not-begun, account-deal}
 
@@ -68,7 +70,7 @@ module _ (g : Given) (run : Run) (m : Meets g run) where
   no-samples u = none-sampled g (sym untouched-is ∙ u)
 
   no-early : R.untouched run ≡ true → m.timed.early ≡ []
-  no-early u = no_more m.timed.early (omega (arith, no-samples u, ap length m.timed.whole, length-append m.timed.early m.timed.late))
+  no-early u = nil_from_length m.timed.early (omega (arith, no-samples u, ap length m.timed.whole, length-append m.timed.early m.timed.late))
 
   none_yet : R.untouched run ≡ true → run.account.taken ≡ 0
   none_yet u =
@@ -111,14 +113,14 @@ module _ (g : Given) (run : Run) (m : Meets g run) where
   past-empty u =
       subst (λ (early : List Sample). StandsFor (interval_in g) (lot_in g) (held_start g.start) run.past (series_after [] (each setpoint_in early))) (no-early g run m u) m.timed.past
 
-  module _ (bounds : Bounds) (e : R.bounds_ground run bounds ≡ None) where
+  module _ (bounds : Bounds) (e : R.bounds_ground run bounds ≡ Ok tt) where
     bounds-early : R.untouched run ≡ true
     unfolding R.bounds_ground bounds_refusal
-    bounds-early = not-false (R.untouched run) (passed (not (R.untouched run)) WrongMoment _ (lit< tt) e).0
+    bounds-early = not-false (R.untouched run) (passed (not (R.untouched run)) WrongMoment _ e).0
 
     no-block-yet : run.load.begun ≡ false
     unfolding R.bounds_ground bounds_refusal
-    no-block-yet = (passed run.load.begun WrongMoment _ (lit< tt) (passed (not (R.untouched run)) WrongMoment _ (lit< tt) e).1).0
+    no-block-yet = (passed run.load.begun WrongMoment _ (passed (not (R.untouched run)) WrongMoment _ e).1).0
 
     pub meets-bounds : Meets (with_start (carried (block_by bounds)) g) (with_bounds run bounds)
     unfolding with_bounds
@@ -131,21 +133,21 @@ module _ (g : Given) (run : Run) (m : Meets g run) where
         fresh-then fresh l = refl
         fresh-then (carried b) (a_block y n o v) = true-false y no-block-yet
 
-  module _ (s : ℤ) (e : R.setpoint_ground run s ≡ None) where
+  module _ (s : ℤ) (e : R.setpoint_ground run s ≡ Ok tt) where
     setpoint-early : R.untouched run ≡ true
     unfolding R.setpoint_ground setpoint_refusal
-    setpoint-early = not-false (R.untouched run) (passed (not (R.untouched run)) WrongMoment _ (lit< tt) e).0
+    setpoint-early = not-false (R.untouched run) (passed (not (R.untouched run)) WrongMoment _ e).0
 
     block-begun : run.load.begun ≡ true
     unfolding R.setpoint_ground setpoint_refusal
-    block-begun = not-false run.load.begun (passed (not run.load.begun) WrongMoment _ (lit< tt) (passed (not (R.untouched run)) WrongMoment _ (lit< tt) e).1).0
+    block-begun = not-false run.load.begun (passed (not run.load.begun) WrongMoment _ (passed (not (R.untouched run)) WrongMoment _ e).1).0
 
     one_left : eqb run.load.left 0 ≡ false
     unfolding R.setpoint_ground setpoint_refusal
     one_left =
-        let p1 = passed (not (R.untouched run)) WrongMoment _ (lit< tt) e in
-        let p2 = passed (not run.load.begun) WrongMoment _ (lit< tt) p1.1 in
-        (passed (eqb run.load.left 0) BadBlockLength _ (lit< tt) p2.1).0
+        let p1 = passed (not (R.untouched run)) WrongMoment _ e in
+        let p2 = passed (not run.load.begun) WrongMoment _ p1.1 in
+        (passed (eqb run.load.left 0) BadBlockLength _ p2.1).0
 
     pub meets-setpoint : Meets (with_start (with_newest g.start s) g) (with_setpoint run s)
     unfolding with_setpoint

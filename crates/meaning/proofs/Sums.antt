@@ -6,7 +6,7 @@ use mathlib.Core.Bool.{true}
 use mathlib.Core.List.{List, [], ◌∷◌, ◌++◌}
 use native.Mathlib.Omega.{arith}
 use native.Mathlib.Numerals.{add-one}
-use native.Mathlib.Nat.{suc-mul}
+use native.Mathlib.Nat.{suc-mul, zero-mul}
 use lib.IntN.{ℤ, pos, ◌+ℤ◌}
 use lib.ListN.{length, drop, get_or, replicate, length-append}
 use Rattle.arithmetic.specs.Whole.{up, down, within_of}
@@ -104,10 +104,7 @@ module _ (amount : Figures → Cents) (b : ℕ) where
 
   total-near : (ls : List Figures) → All Small ls → Near (length ls * b) (sum_over amount ls)
   unfolding sum_over
-  total-near [] all = rw (suc-zero b) zero-near
-    where
-      suc-zero : (n : ℕ) → 0 * n ≡ 0
-      suc-zero n = omega arith
+  total-near [] all = rw (zero-mul b) zero-near
   total-near (l ∷ ls) (more p all) =
       let e : suc (length ls) * b ≡ b + length ls * b = omega (arith, suc-mul (length ls) b) in
       rw e (near-sum (amount l).0 (sum_over amount ls) b (length ls * b) p (total-near ls all))

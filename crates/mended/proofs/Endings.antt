@@ -9,10 +9,9 @@ use lib.ListN.{length}
 use Rattle.arithmetic.proofs.Booleans.{true-false}
 use Rattle.series.specs.Scan.{each}
 use Rattle.series.proofs.Each.{each-end}
-use Rattle.vocabulary.specs.Refusals.{accepted}
-use Rattle.vocabulary.specs.Grounds.{first}
+use Rattle.vocabulary.specs.Refusals.{Ruling, accepted}
 use Rattle.vocabulary.proofs.GroundLaws.{first_holds, only-first}
-use Rattle.vocabulary.specs.declared.refusal.Refusal.{Refusal}
+use Rattle.std.specs.Prelude.{Err}
 use Rattle.vocabulary.specs.declared.refusal.Refusal.TheVariants.{NoEnd}
 use Rattle.vocabulary.specs.declared.header.Header.{Header}
 use Rattle.vocabulary.specs.declared.recorded.Recorded.{Recorded}
@@ -120,10 +119,10 @@ module _ (n : ℕ) (line : List ℕ) (lines : List (List ℕ)) (so : SoFar) wher
 
     ends-accepted : ((p : SoFar) → Ends p (n + 1) lines (ending p (n + 1) lines)) → (other : Entry) → other ≡ entry
         → Ends so n (line ∷ lines) (at_end other so (ending (with so entry) (n + 1) lines))
-    ends-accepted follows (E.Header h) e = in-front (λ d. let z : ◌≡◌ {A = ℕ} 0 1 = cc in omega arith) (follows (with so entry))
-    ends-accepted follows (E.Recorded row) e = in-front (λ d. let z : ◌≡◌ {A = ℕ} 0 1 = cc in omega arith) (follows (with so entry))
+    ends-accepted follows (E.Header h) e = in-front (λ d. cc) (follows (with so entry))
+    ends-accepted follows (E.Recorded row) e = in-front (λ d. cc) (follows (with so entry))
     ends-accepted follows E.End e = at-the-end (sym e)
-    ends-accepted follows E.Malformed e = in-front (λ d. let z : ◌≡◌ {A = ℕ} 0 1 = cc in omega arith) (follows (with so entry))
+    ends-accepted follows E.Malformed e = in-front (λ d. cc) (follows (with so entry))
 
   walk_refused : accepted (ground so entry) ≡ false → walked so n (line ∷ lines) ≡ refused n (ground so entry) ∷ []
   unfolding walk says after
@@ -189,8 +188,8 @@ from_start input = refl
 
 -- only E and a refusal end it
 never-over : {lines : List (List ℕ)} {so : SoFar} → SaysSo lines so → so ≡ over → ⊥
-never-over no_line_lem e = let z : ◌≡◌ {A = ℕ} 0 1 = cc in omega arith
-never-over (header_and_rows head lines s r) e = let z : ◌≡◌ {A = ℕ} 0 1 = cc in omega arith
+never-over no_line_lem e = cc
+never-over (header_and_rows head lines s r) e = cc
 
 accepted-so : (input : List ℕ) (so : SoFar) → Ends nothing 1 (lines_of input) (whole so) → EndsSo input (whole so)
 unfolding grounds items
@@ -199,7 +198,7 @@ accepted-so input (these h rows) (by_end before line rest s a e g p) =
     record { before = before; end = line; rest = rest; lines = s; accepts = a; says = accepted-say before (these h rows) a; said_end = e; accepted_end = g; items = from_start input ∙ p }
 accepted-so input over (by_end before line rest s a e g p) = never-over (accepted-say before over a) refl
 
-refused-so : (input : List ℕ) (so : SoFar) (n : ℕ) (refusal : Refusal) → Ends nothing 1 (lines_of input) (refused_at so n refusal) → RefusedRecording input so n refusal
+refused-so : (input : List ℕ) (so : SoFar) (n : ℕ) (refusal : Ruling) → Ends nothing 1 (lines_of input) (refused_at so n refusal) → RefusedRecording input so n refusal
 refused-so input so n refusal (by_refusal before line rest s a f p) =
     record {
       before = before;
@@ -215,7 +214,7 @@ refused-so input so n refusal (by_refusal before line rest s a f p) =
     }
 
 -- 15 where nothing ended it
-stops : (so : SoFar) (n : ℕ) → (so ≡ over → ⊥) → ends so n ≡ refused n NoEnd ∷ []
+stops : (so : SoFar) (n : ℕ) → (so ≡ over → ⊥) → ends so n ≡ refused n (Err NoEnd) ∷ []
 unfolding ends
 stops nothing n u = refl
 stops (these h rows) n u = refl
@@ -278,7 +277,7 @@ pub accepted-ends : {input : List ℕ} {h : Header} {rows : List Recorded} → A
 unfolding ending_of
 accepted-ends a = ap (ending nothing 1) a.lines ∙ only-whole 1 a.end a.rest a.accepts a.said_end a.accepted_end
 
-refused-ends : {input : List ℕ} {so : SoFar} {n : ℕ} {refusal : Refusal} → RefusedRecording input so n refusal → ending_of input ≡ refused_at so n refusal
+refused-ends : {input : List ℕ} {so : SoFar} {n : ℕ} {refusal : Ruling} → RefusedRecording input so n refusal → ending_of input ≡ refused_at so n refusal
 unfolding ending_of
 refused-ends {so = so} {n = n} r =
     let same = only-first r.first in

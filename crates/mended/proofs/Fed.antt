@@ -21,11 +21,12 @@ use Rattle.lines.proofs.Fed.{fed-prints}
 use Rattle.reading.specs.Entry.{entry_of}
 use Rattle.reading.specs.declared.entry.Entry.TheVariants.{Malformed}
 use Rattle.mending.specs.Mending.{mended}
-use Rattle.mending.specs.Mender.{turn_at, line_turn, finish_at, finish_turn, closed_at, line_room}
+use Rattle.mending.specs.Mender.{turn_at, line_turn, finish_at, finish_turn, line_room}
 use Rattle.mendfeed.specs.Reader.{empty_reader, closed_of, finish_of}
 use Rattle.mendfeed.specs.Feeding.{Called, Fed}
-use Rattle.mending.specs.declared.mender.Stage.{Stage}
-use Rattle.mending.specs.declared.mender.Stage.TheVariants.{Empty, Open, Closed}
+use Rattle.vocabulary.specs.Stage.{closed_at}
+use Rattle.vocabulary.specs.declared.stage.Stage.{Stage}
+use Rattle.vocabulary.specs.declared.stage.Stage.TheVariants.{Empty, Open, Closed}
 use Rattle.mending.specs.declared.mender.Mender.{Mender}
 use Rattle.mendfeed.specs.declared.Reader.{Reader}
 use Rattle.mended.proofs.Means.{mender-means}

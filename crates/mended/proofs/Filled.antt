@@ -9,7 +9,7 @@ use lib.IntN.{ℤ}
 use lib.ListN.{length}
 use Rattle.series.specs.Scan.{each}
 use Rattle.series.proofs.Each.{each-end}
-use Rattle.vocabulary.specs.declared.refusal.Refusal.{Refusal}
+use Rattle.vocabulary.specs.Refusals.{Ruling}
 use Rattle.vocabulary.specs.declared.sample.Sample.{Sample}
 use Rattle.vocabulary.specs.declared.recorded.Recorded.{Recorded}
 use Rattle.mending.specs.declared.grid.Grid.{Grid}
@@ -26,7 +26,7 @@ data Copies : List Sample → List Item → Type 0 where
   of_repeated : {done : List Sample} {second : ℤ} {items : List Item} → Copies done items → Copies done (repeated second ∷ items)
   of_filled : {done : List Sample} {second : ℕ} {x : Sample} {items : List Item} → EndsIn x done → Copies done items → Copies done (filled second x ∷ items)
   of_kept : {done : List Sample} {x : Sample} {items : List Item} → Copies (done ++ (x ∷ [])) items → Copies done (kept x ∷ items)
-  of_refused : {done : List Sample} {n : ℕ} {refusal : Refusal} {items : List Item} → Copies done items → Copies done (refused n refusal ∷ items)
+  of_refused : {done : List Sample} {n : ℕ} {refusal : Ruling} {items : List Item} → Copies done items → Copies done (refused n refusal ∷ items)
 
 copies-both : {done : List Sample} {a b : List Item} → Copies done a → Copies (done ++ kept_in a) b → Copies done (a ++ b)
 unfolding samples_in unfilled
@@ -74,7 +74,7 @@ module _ {t : Grid} {rows good : List Recorded} {items : List Item} {n : ℕ} (m
   filled-last k e before after second x same = copies_at [] before after second x (subst (Copies []) same (copies-both (mends-copy m) (copies-filled t n k (kept-last m e))))
 
   -- and before a refusal
-  pub refused-last : (l : ℕ) (r : Refusal) (before after : List Item) (second : ℕ) (x : Sample)
+  pub refused-last : (l : ℕ) (r : Ruling) (before after : List Item) (second : ℕ) (x : Sample)
       → items ++ (refused l r ∷ []) ≡ before ++ (filled second x ∷ after) → EndsIn x (kept_in before)
   refused-last l r before after second x same = copies_at [] before after second x (subst (Copies []) same (copies-both (mends-copy m) (of_refused no_item)))
 
@@ -87,7 +87,7 @@ data Rows (interval : ℕ) : ℕ → List Item → ℕ → Type 0 where
   of_filled : {c d : ℕ} {second : ℕ} {x : Sample} {items : List Item} → (c + 1) * interval ≤ 60 → Rows interval (c + 1) items d
       → Rows interval c (filled second x ∷ items) d
   of_kept : {c d : ℕ} {x : Sample} {items : List Item} → Rows interval 0 items d → Rows interval c (kept x ∷ items) d
-  of_refused : {c d : ℕ} {n : ℕ} {refusal : Refusal} {items : List Item} → Rows interval c items d → Rows interval c (refused n refusal ∷ items) d
+  of_refused : {c d : ℕ} {n : ℕ} {refusal : Ruling} {items : List Item} → Rows interval c items d → Rows interval c (refused n refusal ∷ items) d
 
 rows_both : {interval c d e : ℕ} {a b : List Item} → Rows interval c a d → Rows interval d b e → Rows interval c (a ++ b) e
 rows_both no_item r = r
@@ -159,7 +159,7 @@ module _ {t : Grid} {rows good : List Recorded} {items : List Item} {n : ℕ} (m
       let r = rows_both (mends-rows m) (rows-filled t x n k 0 (rw e h)) in
       rows-between before between after (subst (λ (l : List Item). Rows (seconds_of t) 0 l (0 + k)) same r) none
 
-  pub refused-few : (l : ℕ) (r : Refusal) (before between after : List Item) → items ++ (refused l r ∷ []) ≡ before ++ (between ++ after) → kept_in between ≡ []
+  pub refused-few : (l : ℕ) (r : Ruling) (before between after : List Item) → items ++ (refused l r ∷ []) ≡ before ++ (between ++ after) → kept_in between ≡ []
       → length (samples_in between) * seconds_of t ≤ 60
   refused-few l r before between after same none =
       let one = rows_both (mends-rows m) (of_refused no_item) in

@@ -1,32 +1,31 @@
 -- THE MENDER PRINTS WHAT A RECORDING MEANS: how what it holds stands to the lines so far, and that every line keeps it so.
 -- Assumes nothing.
-use Prim.Native.Nat.{ℕ, zero, suc, ◌+◌, ◌*◌, ◌-◌, ◌%◌, ◌^◌, ◌≤◌, ◌<◌}
+use Prim.Native.Nat.{ℕ, suc, ◌+◌, ◌*◌, ◌-◌, ◌%◌, ◌^◌, ◌≤◌, ◌<◌}
 use mathlib.Core.Path.{◌≡◌, refl, sym, ap, subst, ◌∙◌}
 use mathlib.Core.Bool.{Bool, true, false, cond, not, ◌&&◌, ◌||◌}
 use mathlib.Core.Logic.{◌⊎◌, inl, inr}
-use mathlib.Core.List.{List, [], ◌∷◌, ◌++◌, append_assoc, append-nil}
+use mathlib.Core.List.{List, [], ◌∷◌, ◌++◌, append_assoc}
 use native.Mathlib.Omega.{arith}
 use native.Mathlib.Decide.{dec_le}
 use native.Mathlib.Nat.{lt_of_not-le, mul-le-mul_right, suc-mul, mod-eq_of_lt, add-zero, zero-mul}
-use borrow.Author.Tests.{ltb-true, lt-ltb, le-ltb, eq-eqb, ne_eqb, eqb-true, not-false}
-use lib.Dec.{eqb, ltb, lit<}
+use borrow.Author.Tests.{lt-ltb, le-ltb, eq-eqb, ne_eqb, eqb-true, not-false}
+use lib.Dec.{eqb, ltb}
 use lib.IntN.{ℤ, pos}
 use lib.ListN.{length}
-use Rattle.arithmetic.specs.Whole.{up, down}
+use Rattle.arithmetic.specs.Whole.{up}
 use Rattle.arithmetic.proofs.Signed.{le-true, true-lt, eq_of}
 use Rattle.arithmetic.proofs.Booleans.{true-false, both}
-use Rattle.vocabulary.specs.Refusals.{accepted}
-use Rattle.vocabulary.specs.Grounds.{on, first}
+use Rattle.vocabulary.specs.Refusals.{Ruling, accepted}
+use Rattle.vocabulary.specs.Grounds.{first}
 use Rattle.vocabulary.specs.Sample.{power_in_range}
 use Rattle.vocabulary.specs.Interval.{windows_of}
 use Rattle.vocabulary.specs.declared.interval.Interval.{Interval}
 use Rattle.vocabulary.specs.declared.interval.Interval.TheVariants.{One, Three, Four}
-use Rattle.vocabulary.specs.declared.refusal.Refusal.{Refusal}
-use Rattle.vocabulary.specs.declared.refusal.Refusal.TheVariants.{None, WrongMoment, BadPower, BadLine, NoEnd, NoFirstSample, HoleTooLong, SecondsOutOfOrder}
+use Rattle.std.specs.Prelude.{Option, Some, None, Ok, Err}
+use Rattle.vocabulary.specs.declared.refusal.Refusal.TheVariants.{WrongMoment, BadPower, BadLine, NoEnd, NoFirstSample, HoleTooLong, SecondsOutOfOrder}
 use Rattle.vocabulary.specs.declared.header.Header.{Header}
 use Rattle.vocabulary.specs.declared.sample.Sample.{Sample}
 use Rattle.vocabulary.specs.declared.recorded.Recorded.{Recorded}
-use Rattle.settlement.specs.Calls.{header_grounds}
 use Rattle.vocabulary.proofs.Answers.{accepted-none}
 use Rattle.contracts.proofs.Accepted.{passed}
 use Rattle.reading.specs.Entry.{entry_of}
@@ -37,21 +36,18 @@ use Rattle.lines.specs.Walk.{walk}
 use Rattle.lines.specs.Feeding.{with_line, with_end, printed_for}
 use Rattle.meaning.proofs.Standing.{header-ground}
 use Rattle.mending.specs.declared.grid.Grid.{Grid}
-use Rattle.mending.specs.declared.mender.Stage.{Stage}
-use Rattle.mending.specs.declared.mender.Stage.TheVariants.{Open, Closed}
+use Rattle.vocabulary.specs.declared.stage.Stage.{Stage}
+use Rattle.vocabulary.specs.declared.stage.Stage.TheVariants.{Open, Closed}
 use Rattle.mending.specs.declared.mender.Sorted.{Sorted}
 use Rattle.mending.specs.declared.mender.Sorted.TheVariants.{Stray, Repeated, Good}
-use Rattle.mending.specs.declared.mender.Before.{Before}
-use Rattle.mending.specs.declared.mender.Before.TheVariants.{Nothing, Second}
 use Rattle.mending.specs.declared.mender.Mender.{Mender}
 use Rattle.mending.specs.Mending.{SoFar, nothing, these, over, grid_of, seconds_of, place_of, outside, same, among, is_good, good_from, good_of, Last, none, last, last_of, next_place, is_none}
 use Rattle.mending.specs.Mending.{long_hole, is_earlier, recorded_grounds, end_grounds, grounds, ground, Item, refused, kept, filled_from, filled_after, fillings, recorded_items, items}
 use Rattle.mending.specs.Mending.{with, says, after, ends, item_text, items_text, recording, mended}
-use Rattle.mending.specs.Mender.{Turn, earlier_than, at_stage, empty_mender, opened_by, sorted_at, hole_refusal, sorted_refusal, row_refusal, rest_items, row_items, with_row, end_refusal}
+use Rattle.mending.specs.Mender.{Turn, earlier_than, empty_mender, sorted_at, hole_refusal, sorted_refusal, row_refusal, rest_items, row_items, with_row, end_refusal}
 use Rattle.mending.specs.Mender.{refused_turn, open_turn, sorted_turn, row_turn, end_turn, turn_at, line_turn, finish_at, finish_turn}
-use Rattle.mended.specs.Promises.{EndsIn}
 use Rattle.mended.proofs.Standing.{last_end, good-end, OnGrid, on-grid, among-last, Mends, no_line_lem, drops, begins, goes_on_lem, Lasts, no-good, a-good}
-use Rattle.mended.proofs.Standing.{Stands, stands-none, Passed, passes, StandsSo, stands-with}
+use Rattle.mended.proofs.Standing.{Stands, passes, StandsSo, stands-with}
 
 -- ---- what the mender holds, by the last good line and the line just before
 
@@ -59,9 +55,9 @@ abbrev sample_in : Last → Sample
 sample_in none = record { setpoint = pos 0; actual = pos 0 }
 sample_in (last row) = row.sample
 
-abbrev before_in : Last → Before
-before_in none = Nothing
-before_in (last row) = Second row.second
+abbrev before_in : Last → Option ℤ
+before_in none = None
+before_in (last row) = Some row.second
 
 abbrev mender_for : Grid → Last → Last → Mender
 mender_for t good before = record { stage = Open; grid = t; next = next_place t good; last = sample_in good; before = before_in before }
@@ -182,9 +178,10 @@ earlier-is second none = refl
 earlier-is second (last row) = refl
 
 -- 19 and 20 before 21
-hole-first : (x y z : Bool)
-    → cond (accepted (cond x NoFirstSample (cond y HoleTooLong None))) (cond z SecondsOutOfOrder None) (cond x NoFirstSample (cond y HoleTooLong None))
-    ≡ cond x NoFirstSample (cond y HoleTooLong (cond z SecondsOutOfOrder None))
+abbrev hole_first : Bool → Bool → Ruling → Ruling
+hole_first x y rest = cond x (Err NoFirstSample) (cond y (Err HoleTooLong) rest)
+
+hole-first : (x y z : Bool) → cond (accepted (hole_first x y (Ok tt))) (cond z (Err SecondsOutOfOrder) (Ok tt)) (hole_first x y (Ok tt)) ≡ hole_first x y (cond z (Err SecondsOutOfOrder) (Ok tt))
 hole-first true y z = refl
 hole-first false true z = refl
 hole-first false false z = refl
@@ -241,8 +238,8 @@ module _ (t : Grid) (rows : List Recorded) (row : Recorded) where
   is-kept o h = rw (o, le-ltb place (next_place t (last_of goods)) h)
 
   -- the powers come first, in both
-  abbrev powers : Refusal → Refusal
-  powers rest = cond (not (power_in_range row.sample.setpoint)) BadPower (cond (not (power_in_range row.sample.actual)) BadPower rest)
+  abbrev powers : Ruling → Ruling
+  powers rest = cond (not (power_in_range row.sample.setpoint)) (Err BadPower) (cond (not (power_in_range row.sample.actual)) (Err BadPower) rest)
 
   abbrev no_first : Bool
   no_first = is_good t goods row && is_none (last_of goods) && not (eqb (up row.second) 0)
@@ -251,21 +248,21 @@ module _ (t : Grid) (rows : List Recorded) (row : Recorded) where
   too_long = is_good t goods row && long_hole t rows place
 
   grounds-are : first (recorded_grounds t rows row)
-      ≡ powers (cond no_first NoFirstSample (cond too_long HoleTooLong (cond (is_earlier row.second (last_of rows)) SecondsOutOfOrder None)))
+      ≡ powers (cond no_first (Err NoFirstSample) (cond too_long (Err HoleTooLong) (cond (is_earlier row.second (last_of rows)) (Err SecondsOutOfOrder) (Ok tt))))
   unfolding recorded_grounds
   grounds-are = refl
 
-  dropped-refusal : (sorted : Sorted) → sorted_refusal m sorted ≡ None → is_good t goods row ≡ false → row_refusal m sorted row ≡ first (recorded_grounds t rows row)
+  dropped-refusal : (sorted : Sorted) → sorted_refusal m sorted ≡ Ok tt → is_good t goods row ≡ false → row_refusal m sorted row ≡ first (recorded_grounds t rows row)
   unfolding row_refusal
   dropped-refusal sorted s g =
-      ap (λ (r : Refusal). powers (cond (accepted r) (cond later SecondsOutOfOrder None) r)) s
-      ∙ ap (λ (b : Bool). powers (cond b SecondsOutOfOrder None)) later-is
-      ∙ sym (grounds-are ∙ ap (λ (b : Bool). powers (cond (b && is_none (last_of goods) && not (eqb (up row.second) 0)) NoFirstSample
-      (cond (b && long_hole t rows place) HoleTooLong (cond (is_earlier row.second (last_of rows)) SecondsOutOfOrder None)))) g)
+      ap (λ (r : Ruling). powers (cond (accepted r) (cond later (Err SecondsOutOfOrder) (Ok tt)) r)) s
+      ∙ ap (λ (b : Bool). powers (cond b (Err SecondsOutOfOrder) (Ok tt))) later-is
+      ∙ sym (grounds-are ∙ ap (λ (b : Bool). powers (cond (b && is_none (last_of goods) && not (eqb (up row.second) 0)) (Err NoFirstSample)
+      (cond (b && long_hole t rows place) (Err HoleTooLong) (cond (is_earlier row.second (last_of rows)) (Err SecondsOutOfOrder) (Ok tt))))) g)
 
   -- the rest of the grounds of a line that is good
-  abbrev good_rest : Bool → Bool → Bool → Refusal
-  good_rest x y z = powers (cond x NoFirstSample (cond y HoleTooLong (cond z SecondsOutOfOrder None)))
+  abbrev good_rest : Bool → Bool → Bool → Ruling
+  good_rest x y z = powers (cond x (Err NoFirstSample) (cond y (Err HoleTooLong) (cond z (Err SecondsOutOfOrder) (Ok tt))))
 
   good-grounds : is_good t goods row ≡ true
       → first (recorded_grounds t rows row) ≡ good_rest (is_none (last_of goods) && not (eqb (up row.second) 0)) (long_hole t rows place) (is_earlier row.second (last_of rows))
@@ -282,7 +279,7 @@ module _ (t : Grid) (rows : List Recorded) (row : Recorded) where
       → row_refusal m Repeated row ≡ first (recorded_grounds t rows row)
   unfolding row_refusal
   early-refusal g h n e =
-      ap (λ (b : Bool). powers (cond b SecondsOutOfOrder None)) later-is
+      ap (λ (b : Bool). powers (cond b (Err SecondsOutOfOrder) (Ok tt))) later-is
       ∙ sym
       (good-grounds g
       ∙ ap (λ (b : Bool). good_rest (b && not (eqb (up row.second) 0)) (long_hole t rows place) (is_earlier row.second (last_of rows))) n
@@ -293,9 +290,9 @@ module _ (t : Grid) (rows : List Recorded) (row : Recorded) where
   kept-refusal g here =
       ap powers
       (hole-first (eqb (next_place t (last_of goods)) 0 && not (eqb place 0)) (long_hole t rows place) later
-      ∙ ap (λ (b : Bool). cond (b && not (eqb place 0)) NoFirstSample (cond (long_hole t rows place) HoleTooLong (cond later SecondsOutOfOrder None))) (none_is t (last_of goods))
-      ∙ ap (λ (b : Bool). cond (is_none (last_of goods) && not b) NoFirstSample (cond (long_hole t rows place) HoleTooLong (cond later SecondsOutOfOrder None))) (zero-place t row.second here)
-      ∙ ap (λ (b : Bool). cond (is_none (last_of goods) && not (eqb (up row.second) 0)) NoFirstSample (cond (long_hole t rows place) HoleTooLong (cond b SecondsOutOfOrder None))) later-is)
+      ∙ ap (λ (b : Bool). cond (b && not (eqb place 0)) (Err NoFirstSample) (cond (long_hole t rows place) (Err HoleTooLong) (cond later (Err SecondsOutOfOrder) (Ok tt)))) (none_is t (last_of goods))
+      ∙ ap (λ (b : Bool). cond (is_none (last_of goods) && not b) (Err NoFirstSample) (cond (long_hole t rows place) (Err HoleTooLong) (cond later (Err SecondsOutOfOrder) (Ok tt)))) (zero-place t row.second here)
+      ∙ ap (λ (b : Bool). cond (is_none (last_of goods) && not (eqb (up row.second) 0)) (Err NoFirstSample) (cond (long_hole t rows place) (Err HoleTooLong) (cond b (Err SecondsOutOfOrder) (Ok tt)))) later-is)
       ∙ sym (good-grounds g)
 
   refusal_is : Case t rows row → row_refusal m (sorted_at m row.second) row ≡ first (recorded_grounds t rows row)
@@ -315,10 +312,10 @@ module _ (t : Grid) (rows : List Recorded) (row : Recorded) where
 
   -- 21 is given where it comes too early
   never-early : is_good t goods row ≡ true → is_none (last_of goods) ≡ false → place < next_place t (last_of goods) → is_earlier row.second (last_of rows) ≡ true
-      → first (recorded_grounds t rows row) ≡ None → ⊥
+      → first (recorded_grounds t rows row) ≡ Ok tt → ⊥
   never-early g n h e none-holds = true-false e (passes t rows row none-holds).not_earlier
 
-  row-items : Case t rows row → first (recorded_grounds t rows row) ≡ None → row_items m (sorted_at m row.second) row ≡ recorded_items t rows row
+  row-items : Case t rows row → first (recorded_grounds t rows row) ≡ Ok tt → row_items m (sorted_at m row.second) row ≡ recorded_items t rows row
   unfolding recorded_items rest_items fillings is_good
   row-items (strays o) a = ap (λ s. row_items m s row) (is-stray o) ∙ rw o
   row-items (repeats o n h) a = ap (λ s. row_items m s row) (is-repeated o h) ∙ rw (o, n)
@@ -347,7 +344,7 @@ module _ (t : Grid) (rows : List Recorded) (row : Recorded) where
       ∙ ap (λ (l : Last). mender_for t l (last_of (rows ++ (row ∷ [])))) (last_end goods row)
       ∙ ap (mender_for t (last row)) (last_end rows row)
 
-  row-mender : Case t rows row → first (recorded_grounds t rows row) ≡ None → with_row m (sorted_at m row.second) row ≡ mender_at t (rows ++ (row ∷ []))
+  row-mender : Case t rows row → first (recorded_grounds t rows row) ≡ Ok tt → with_row m (sorted_at m row.second) row ≡ mender_at t (rows ++ (row ∷ []))
   unfolding is_good
   row-mender (strays o) a = ap (λ s. with_row m s row) (is-stray o) ∙ sym (after-dropped (rw o))
   row-mender (repeats o n h) a = ap (λ s. with_row m s row) (is-repeated o h) ∙ sym (after-dropped (rw (o, n)))
@@ -372,11 +369,11 @@ record Does (so : SoFar) (n : ℕ) (entry : Entry) (turn : Turn) : Type 0 where
   stands : StandsFor (cond (accepted (ground so entry)) (with so entry) over) turn.desk
 
 -- refused
-refuses : (so : SoFar) (m : Mender) (n : ℕ) (entry : Entry) (refusal : Refusal) → ground so entry ≡ refusal → accepted refusal ≡ false → Does so n entry (refused_turn m n refusal)
+refuses : (so : SoFar) (m : Mender) (n : ℕ) (entry : Entry) (refusal : Ruling) → ground so entry ≡ refusal → accepted refusal ≡ false → Does so n entry (refused_turn m n refusal)
 unfolding refused_turn
 refuses so m n entry refusal e f =
     record {
-      text = sym (ap (λ (r : Refusal). items_text (cond (accepted r) (items so entry) (refused n r ∷ []))) e ∙ ap (λ (b : Bool). items_text (cond b (items so entry) (refused n refusal ∷ []))) f);
+      text = sym (ap (λ (r : Ruling). items_text (cond (accepted r) (items so entry) (refused n r ∷ []))) e ∙ ap (λ (b : Bool). items_text (cond b (items so entry) (refused n refusal ∷ []))) f);
       stands = rw (e, f) (at_last refl);
     }
 
@@ -385,7 +382,7 @@ goes : (so : SoFar) (n : ℕ) (entry : Entry) (turn : Turn) → accepted (ground
 goes so n entry turn a t s = record { text = t ∙ sym (ap (λ (b : Bool). items_text (cond b (items so entry) (refused n (ground so entry) ∷ []))) a); stands = rw a s }
 
 -- by a refusal that is the ground
-either : (so : SoFar) (m : Mender) (n : ℕ) (entry : Entry) (refusal : Refusal) (turn : Turn) → refusal ≡ ground so entry
+either : (so : SoFar) (m : Mender) (n : ℕ) (entry : Entry) (refusal : Ruling) (turn : Turn) → refusal ≡ ground so entry
     → (accepted (ground so entry) ≡ true → Does so n entry turn) → Does so n entry (cond (accepted refusal) turn (refused_turn m n refusal))
 either so m n entry refusal turn e f = by_answer (accepted refusal) refl
   where
@@ -418,11 +415,11 @@ module _ (h : Header) (rows : List Recorded) (s : StandsSo (these h rows)) where
   -- the end
   end-refusal : end_refusal (mender_at t rows) ≡ first (end_grounds t rows)
   unfolding end_refusal end_grounds
-  end-refusal = ap (λ (b : Bool). cond b NoFirstSample (cond (long_hole t rows t.places) HoleTooLong None)) (none_is t (last_of (good_of t rows)))
+  end-refusal = ap (λ (b : Bool). cond b (Err NoFirstSample) (cond (long_hole t rows t.places) (Err HoleTooLong) (Ok tt))) (none_is t (last_of (good_of t rows)))
 
-  some_good : first (end_grounds t rows) ≡ None → is_none (last_of (good_of t rows)) ≡ false
+  some_good : first (end_grounds t rows) ≡ Ok tt → is_none (last_of (good_of t rows)) ≡ false
   unfolding end_grounds
-  some_good e = (passed _ NoFirstSample _ (lit< tt) e).0
+  some_good e = (passed _ NoFirstSample _ e).0
 
   ended : (n : ℕ) → Does (these h rows) n E.End (end_turn (mender_at t rows) n)
   unfolding end_turn grounds items with rest_items fillings
@@ -439,13 +436,13 @@ module _ (h : Header) (rows : List Recorded) (s : StandsSo (these h rows)) where
 does : {so : SoFar} {m : Mender} → StandsFor so m → (n : ℕ) (entry : Entry) → Does so n entry (turn_at m.stage m n entry)
 unfolding empty_mender grounds items with items_text
 does at_first_lem n (E.Header h) = opens n h
-does at_first_lem n (E.Recorded row) = refuses nothing _ n (E.Recorded row) WrongMoment refl refl
-does at_first_lem n E.End = refuses nothing _ n E.End WrongMoment refl refl
-does at_first_lem n E.Malformed = refuses nothing _ n E.Malformed BadLine refl refl
-does (amid {h} {rows} s) n (E.Header k) = refuses (these h rows) _ n (E.Header k) WrongMoment refl refl
+does at_first_lem n (E.Recorded row) = refuses nothing _ n (E.Recorded row) (Err WrongMoment) refl refl
+does at_first_lem n E.End = refuses nothing _ n E.End (Err WrongMoment) refl refl
+does at_first_lem n E.Malformed = refuses nothing _ n E.Malformed (Err BadLine) refl refl
+does (amid {h} {rows} s) n (E.Header k) = refuses (these h rows) _ n (E.Header k) (Err WrongMoment) refl refl
 does (amid {h} {rows} s) n (E.Recorded row) = records h rows s n row
 does (amid {h} {rows} s) n E.End = ended h rows s n
-does (amid {h} {rows} s) n E.Malformed = refuses (these h rows) _ n E.Malformed BadLine refl refl
+does (amid {h} {rows} s) n E.Malformed = refuses (these h rows) _ n E.Malformed (Err BadLine) refl refl
 does (at_last {m} c) n entry = subst (Does over n entry) (sym (ap (λ (st : Stage). turn_at st m n entry) c)) (record { text = refl; stands = at_last c })
 
 pub line_step : {so : SoFar} {m : Mender} → StandsFor so m → (n : ℕ) (line : List ℕ) → Step so n line (line_turn m n line)
@@ -455,8 +452,8 @@ line_step s n line = let d = does s n (entry_of line) in record { text = d.text;
 -- the end of the input
 finish-says : {so : SoFar} {m : Mender} → StandsFor so m → (count : ℕ) → count + 1 < 2 ^ 64 → (finish_turn m count).text ≡ items_text (ends so (count + 1))
 unfolding finish_turn refused_turn empty_mender ends items_text
-finish-says at_first_lem count few = ap (λ (n : ℕ). items_text (refused n NoEnd ∷ [])) (mod-eq_of_lt few)
-finish-says (amid s) count few = ap (λ (n : ℕ). items_text (refused n NoEnd ∷ [])) (mod-eq_of_lt few)
+finish-says at_first_lem count few = ap (λ (n : ℕ). items_text (refused n (Err NoEnd) ∷ [])) (mod-eq_of_lt few)
+finish-says (amid s) count few = ap (λ (n : ℕ). items_text (refused n (Err NoEnd) ∷ [])) (mod-eq_of_lt few)
 finish-says (at_last {m} c) count few = ap (λ (st : Stage). (finish_at st m ((count + 1) % 2 ^ 64)).text) c
 
 -- ---- all lines

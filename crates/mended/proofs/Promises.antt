@@ -8,7 +8,8 @@ use Rattle.arithmetic.specs.Whole.{up}
 use Rattle.series.specs.Scan.{each}
 use Rattle.vocabulary.specs.Interval.{windows_of}
 use Rattle.vocabulary.specs.Grounds.{ranked}
-use Rattle.vocabulary.specs.declared.refusal.Refusal.{Refusal}
+use Rattle.std.specs.Prelude.{Err}
+use Rattle.vocabulary.specs.Refusals.{Ruling}
 use Rattle.vocabulary.specs.declared.refusal.Refusal.TheVariants.{NoEnd}
 use Rattle.vocabulary.specs.declared.header.Header.{Header}
 use Rattle.vocabulary.specs.declared.sample.Sample.{Sample}
@@ -45,7 +46,7 @@ entry-ranked over entry = refl
 
 data Tail (t : Grid) (rows good : List Recorded) (n : ℕ) : List Item → List Item → Type 0 where
   filling : (c : Closes t rows good n) → Tail t rows good n (filled_from t c.g.sample n c.missing) []
-  refusing : (l : ℕ) (r : Refusal) → Tail t rows good n (refused l r ∷ []) (refused l r ∷ [])
+  refusing : (l : ℕ) (r : Ruling) → Tail t rows good n (refused l r ∷ []) (refused l r ∷ [])
 
 record Told (input : List ℕ) (h : Header) (rows : List Recorded) (refusal : List Item) : Type 0 where
   next : ℕ
@@ -81,7 +82,7 @@ told-by input (refused_at (these h rows) n refusal) r =
 told-by input (refused_at over n refusal) r = tt
 told-by input (short nothing n) r = tt
 told-by input (short (these h rows) n) r =
-    record { next = next_place (grid_of h) (last_of (good_of (grid_of h) rows)); tail = refused n NoEnd ∷ []; mends = accepted-mend r.accepts; ends = refusing n NoEnd; all = r.items }
+    record { next = next_place (grid_of h) (last_of (good_of (grid_of h) rows)); tail = refused n (Err NoEnd) ∷ []; mends = accepted-mend r.accepts; ends = refusing n (Err NoEnd); all = r.items }
 told-by input (short over n) r = tt
 
 -- ---- a recording with a header, however it ends

@@ -4,17 +4,15 @@ use Prim.Native.Nat.{ℕ}
 use mathlib.Core.Path.{◌≡◌, refl}
 use mathlib.Core.Bool.{Bool, true, false, cond}
 use mathlib.Core.List.{List}
-use native.Mathlib.Omega.{arith}
 use borrow.Author.Tests.{eqb-true}
 use lib.Dec.{eqb, ltb}
+use lib.IntN.{ℤ}
 use lib.ListN.{length, get_or}
 use Rattle.arithmetic.proofs.Booleans.{both}
 use Rattle.fields.specs.Fields.{fields, field_at}
+use Rattle.std.specs.Prelude.{Option, Some, None}
 use Rattle.fields.specs.Numbers.{number_of}
-use Rattle.fields.specs.declared.number.Number.{Number}
-use Rattle.fields.specs.declared.number.Number.TheVariants as N
 use Rattle.vocabulary.specs.declared.header.Header.{Header}
-use Rattle.vocabulary.specs.declared.recorded.Recorded.{Recorded}
 use Rattle.reading.specs.Line.{is_letter, kind_of, header_of, end_of, by_kind, line_of}
 use Rattle.reading.specs.Entry.{entry_kind_of, entry_by, recorded_fields, recorded_of, by_entry_kind, entry_of}
 use Rattle.reading.specs.declared.Line.{Line}
@@ -28,14 +26,8 @@ data Alike : Entry → Line → Type 0 where
   ends : Alike E.End L.End
   recorded : {entry : Entry} {line : Line} → ((h : Header) → entry ≡ E.Header h → ⊥) → (entry ≡ E.End → ⊥) → Alike entry line
 
-neither-header : (h : Header) → E.Malformed ≡ E.Header h → ⊥
-neither-header h e = let z : ◌≡◌ {A = ℕ} 0 1 = cc in omega arith
-
-neither-end : E.Malformed ≡ E.End → ⊥
-neither-end e = let z : ◌≡◌ {A = ℕ} 0 1 = cc in omega arith
-
 malformed : {line : Line} → Alike E.Malformed line
-malformed = recorded neither-header neither-end
+malformed = recorded (λ h e. cc) (λ e. cc)
 
 alike-by : (line : Line) → Alike (entry_by line) line
 alike-by (L.Header h) = headers h
@@ -47,18 +39,11 @@ alike-by L.End = ends
 alike-by L.Malformed = malformed
 
 -- a G line is neither
-row-header : (row : Recorded) (h : Header) → E.Recorded row ≡ E.Header h → ⊥
-row-header row h e = let z : ◌≡◌ {A = ℕ} 0 1 = cc in omega arith
-
-row-end : (row : Recorded) → E.Recorded row ≡ E.End → ⊥
-row-end row e = let z : ◌≡◌ {A = ℕ} 0 1 = cc in omega arith
-
-recorded-fields : (a b c : Number) {line : Line} → Alike (recorded_fields a b c) line
-recorded-fields (N.Value second) (N.Value setpoint) (N.Value actual) =
-    recorded (row-header _) (row-end _)
-recorded-fields (N.Value second) (N.Value setpoint) N.Malformed = malformed
-recorded-fields (N.Value second) N.Malformed actual = malformed
-recorded-fields N.Malformed setpoint actual = malformed
+recorded-fields : (a b c : Option ℤ) {line : Line} → Alike (recorded_fields a b c) line
+recorded-fields (Some second) (Some setpoint) (Some actual) = recorded (λ h e. cc) (λ e. cc)
+recorded-fields (Some second) (Some setpoint) None = malformed
+recorded-fields (Some second) None actual = malformed
+recorded-fields None setpoint actual = malformed
 
 recorded-of : (fs : List (List ℕ)) {line : Line} → Alike (recorded_of fs) line
 unfolding recorded_of
@@ -100,11 +85,11 @@ alike-lines line = go (ltb 80 (length line))
 
 header-by : {entry : Entry} {line : Line} (h : Header) → Alike entry line → entry ≡ E.Header h → line ≡ L.Header h
 header-by h (headers k) e = cc
-header-by h ends e = let z : ◌≡◌ {A = ℕ} 0 1 = cc in absurd (omega arith)
+header-by h ends e = cc
 header-by h (recorded n m) e = absurd (n h e)
 
 end_by : {entry : Entry} {line : Line} → Alike entry line → entry ≡ E.End → line ≡ L.End
-end_by (headers k) e = let z : ◌≡◌ {A = ℕ} 0 1 = cc in absurd (omega arith)
+end_by (headers k) e = cc
 end_by ends e = refl
 end_by (recorded n m) e = absurd (m e)
 

@@ -9,15 +9,15 @@ use lib.IntN.{ℤ, pos}
 use lib.ListN.{length}
 use Rattle.series.specs.Scan.{each}
 use Rattle.vocabulary.specs.Sample.{power_in_range}
-use Rattle.vocabulary.specs.declared.refusal.Refusal.{Refusal}
+use Rattle.vocabulary.specs.Refusals.{Ruling}
 use Rattle.vocabulary.specs.declared.sample.Sample.{Sample}
 use Rattle.vocabulary.specs.declared.recorded.Recorded.{Recorded}
 use Rattle.channel.proofs.HandedOn.{power_small}
 use Rattle.print.specs.Decimal.{number_text}
 use Rattle.print.specs.Fields.{tabbed}
 use Rattle.sheets.specs.Sheet.{line_text}
-use Rattle.fields.specs.Numbers.{number_of, shortened}
-use Rattle.fields.specs.declared.number.Number.TheVariants as N
+use Rattle.std.specs.Prelude.{Some}
+use Rattle.fields.specs.Numbers.{number_of}
 use Rattle.lines.specs.Lines.{lines_of}
 use Rattle.lines.proofs.LineLaws.{NoLf, none, another, ended, read_back, written}
 use Rattle.reading.specs.Line.{line_of}
@@ -33,11 +33,11 @@ use Rattle.mended.proofs.Standing.{Dropped, as_stray, as_repeated, Mends, no_lin
 
 -- ---- a power is read as what it was printed for
 
-power-back : (z : ℤ) → power_in_range z ≡ true → number_of (number_text z) ≡ N.Value z
+power-back : (z : ℤ) → power_in_range z ≡ true → number_of (number_text z) ≡ Some z
 unfolding number_of
 power-back z e =
     let s = power_small z e in
-    ap shortened (number-back 8 z (omega arith) (omega (arith, s.above)) (omega (arith, s.below)))
+    number-back 8 z (omega arith) (omega (arith, s.above)) (omega (arith, s.below))
 
 -- ---- S
 
@@ -159,7 +159,7 @@ plain-fair (of_repeated p) = plain-fair p
 plain-fair (of_filled f p) = of_more f (plain-fair p)
 plain-fair (of_kept f p) = of_more f (plain-fair p)
 
-no-refusal : (before after : List Item) (l : ℕ) (r : Refusal) → Plain (before ++ (refused l r ∷ after)) → ⊥
+no-refusal : (before after : List Item) (l : ℕ) (r : Ruling) → Plain (before ++ (refused l r ∷ after)) → ⊥
 no-refusal [] after l r x' = elim x' [ ]
 no-refusal (stray second ∷ before) after l r (of_stray p) = no-refusal before after l r p
 no-refusal (repeated second ∷ before) after l r (of_repeated p) = no-refusal before after l r p
@@ -228,5 +228,5 @@ module _ {t : Grid} {rows good : List Recorded} {items : List Item} {n : ℕ} (m
   all_back = ap (each line_of) (plain_lines plain-all) ∙ samples-back all_fair
 
   -- NONE IS A REFUSAL
-  pub none-refused : (before after : List Item) (l : ℕ) (r : Refusal) → all ≡ before ++ (refused l r ∷ after) → ⊥
+  pub none-refused : (before after : List Item) (l : ℕ) (r : Ruling) → all ≡ before ++ (refused l r ∷ after) → ⊥
   none-refused before after l r e = no-refusal before after l r (subst Plain e plain-all)

@@ -7,7 +7,7 @@ use mathlib.Core.List.{List, ◌∷◌, ◌++◌}
 use native.Mathlib.Omega.{arith}
 use lib.ListN.{length}
 use Rattle.series.specs.Scan.{each}
-use Rattle.vocabulary.specs.declared.refusal.Refusal.{Refusal}
+use Rattle.vocabulary.specs.Refusals.{Ruling}
 use Rattle.vocabulary.specs.declared.header.Header.{Header}
 use Rattle.vocabulary.specs.declared.recorded.Recorded.{Recorded}
 use Rattle.lines.specs.Lines.{lines_of}
@@ -57,7 +57,7 @@ module _ {recorded : List ℕ} {h : Header} {rows : List Recorded} (a : Accepted
   samples-read = rw items-are (all_back (accepted-mend a.accepts) close)
 
   -- R is not printed for it
-  pub accepted-not-refused : (before after : List Item) (n : ℕ) (refusal : Refusal) → recording recorded ≡ before ++ (refused n refusal ∷ after) → ⊥
+  pub accepted-not-refused : (before after : List Item) (n : ℕ) (refusal : Ruling) → recording recorded ≡ before ++ (refused n refusal ∷ after) → ⊥
   accepted-not-refused before after n refusal e = none-refused (accepted-mend a.accepts) close before after n refusal (sym items-are ∙ e)
 
   module _ {g : Given} {block contracts : List (List ℕ)} {input : List ℕ} (same : g.header ≡ h) (deals : Contracted g block contracts) (made : MadeOf recorded block contracts input) where

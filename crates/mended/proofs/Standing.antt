@@ -8,15 +8,16 @@ use native.Mathlib.Omega.{arith}
 use native.Mathlib.Decide.{dec_le}
 use native.Mathlib.Nat.{lt_of_not-le, div-add-mod', mul-le-mul_right, add-zero, zero-div}
 use borrow.Author.Tests.{leb-false, ltb-false, eqb-true, not-false}
-use lib.Dec.{eqb, leb, lit<}
+use lib.Dec.{eqb, leb}
 use lib.IntN.{ℤ, pos}
 use lib.Signed.{lt_z}
 use Rattle.arithmetic.specs.Whole.{up, down}
 use Rattle.arithmetic.proofs.Signed.{lt-false, true-le, up_pos, down_pos, down-zero, eq_of}
 use Rattle.arithmetic.proofs.Booleans.{true-false, neither}
+use Rattle.std.specs.Prelude.{Ok}
 use Rattle.vocabulary.specs.Refusals.{accepted}
 use Rattle.vocabulary.specs.Grounds.{first}
-use Rattle.vocabulary.specs.declared.refusal.Refusal.TheVariants.{None, BadPower, NoFirstSample, HoleTooLong, SecondsOutOfOrder}
+use Rattle.vocabulary.specs.declared.refusal.Refusal.TheVariants.{BadPower, NoFirstSample, HoleTooLong, SecondsOutOfOrder}
 use Rattle.vocabulary.specs.declared.header.Header.{Header}
 use Rattle.vocabulary.specs.declared.recorded.Recorded.{Recorded}
 use Rattle.vocabulary.proofs.Answers.{accepted-none}
@@ -130,14 +131,14 @@ pub record Passed (t : Grid) (rows : List Recorded) (row : Recorded) : Type 0 wh
   pub small-hole : (is_good t (good_of t rows) row && long_hole t rows (place_of t row.second)) ≡ false
   pub not_earlier : is_earlier row.second (last_of rows) ≡ false
 
-pub passes : (t : Grid) (rows : List Recorded) (row : Recorded) → first (recorded_grounds t rows row) ≡ None → Passed t rows row
+pub passes : (t : Grid) (rows : List Recorded) (row : Recorded) → first (recorded_grounds t rows row) ≡ Ok tt → Passed t rows row
 unfolding recorded_grounds
 passes t rows row e =
-    let a = passed _ BadPower _ (lit< tt) e in
-    let b = passed _ BadPower _ (lit< tt) a.1 in
-    let c = passed _ NoFirstSample _ (lit< tt) b.1 in
-    let d = passed _ HoleTooLong _ (lit< tt) c.1 in
-    let f = passed _ SecondsOutOfOrder _ (lit< tt) d.1 in
+    let a = passed _ BadPower _ e in
+    let b = passed _ BadPower _ a.1 in
+    let c = passed _ NoFirstSample _ b.1 in
+    let d = passed _ HoleTooLong _ c.1 in
+    let f = passed _ SecondsOutOfOrder _ d.1 in
     record { fair = record { setpoint = not-false _ a.0; actual = not-false _ b.0 }; first-here = c.0; small-hole = d.0; not_earlier = f.0 }
 
 -- ---- it is O or T, or good: and so it stands with that line, too
@@ -283,7 +284,7 @@ module _ (t : Grid) (rows : List Recorded) (row : Recorded) (so : Stands t rows)
 
 abbrev pub StandsSo : SoFar → Type 0
 StandsSo nothing = Unit
-StandsSo (these h rows) = (first (header_grounds h) ≡ None) × Stands (grid_of h) rows
+StandsSo (these h rows) = (first (header_grounds h) ≡ Ok tt) × Stands (grid_of h) rows
 StandsSo over = Unit
 
 pub stands-with : (so : SoFar) (entry : Entry) → accepted (ground so entry) ≡ true → StandsSo so → StandsSo (with so entry)
@@ -308,7 +309,7 @@ module _ {lines : List (List ℕ)} {h : Header} {rows : List Recorded} (a : Acce
   standing : StandsSo (these h rows)
   standing = stands-lines tt a
 
-  pub header-good : first (header_grounds h) ≡ None
+  pub header-good : first (header_grounds h) ≡ Ok tt
   header-good = standing.0
 
   -- WHAT WAS PRINTED for them
@@ -333,15 +334,15 @@ pub record Closes (t : Grid) (rows good : List Recorded) (n : ℕ) : Type 0 wher
   pub short : missing * seconds_of t ≤ 60
   pub filled : fillings t rows t.places ≡ filled_from t g.sample n missing
 
-module _ (t : Grid) (rows : List Recorded) (so : Stands t rows) (end : first (end_grounds t rows) ≡ None) where
+module _ (t : Grid) (rows : List Recorded) (so : Stands t rows) (end : first (end_grounds t rows) ≡ Ok tt) where
   abbrev goods : List Recorded
   goods = good_of t rows
 
   ended : (is_none (last_of goods) ≡ false) × (long_hole t rows t.places ≡ false)
   unfolding end_grounds
   ended =
-      let a = passed _ NoFirstSample _ (lit< tt) end in
-      let b = passed _ HoleTooLong _ (lit< tt) a.1 in
+      let a = passed _ NoFirstSample _ end in
+      let b = passed _ HoleTooLong _ a.1 in
       (a.0, b.0)
 
   closes_by : (gd : List Recorded) (l m : Last) → goods ≡ gd → last_of goods ≡ l → Lasts t gd l m → Closes t rows goods (next_place t (last_of goods))

@@ -10,7 +10,7 @@ use Rattle.arithmetic.specs.Whole.{up}
 use Rattle.series.specs.Scan.{each}
 use Rattle.series.proofs.Each.{each-join, each-end}
 use Rattle.series.proofs.Scanned.{each-length}
-use Rattle.vocabulary.specs.declared.refusal.Refusal.{Refusal}
+use Rattle.vocabulary.specs.Refusals.{Ruling}
 use Rattle.vocabulary.specs.declared.sample.Sample.{Sample}
 use Rattle.vocabulary.specs.declared.recorded.Recorded.{Recorded}
 use Rattle.mending.specs.declared.grid.Grid.{Grid}
@@ -117,7 +117,7 @@ unfolding seconds each
 covers_kept t row from e =
     record { lines = record { second = up row.second; sample = row.sample } ∷ []; times = of_kept row no_item; in_order = ap (λ (s : ℕ). s ∷ []) e }
 
-pub covers-refused : (t : Grid) (from m : ℕ) (r : Refusal) → Covers t (refused m r ∷ []) [] from 0
+pub covers-refused : (t : Grid) (from m : ℕ) (r : Ruling) → Covers t (refused m r ∷ []) [] from 0
 unfolding seconds each
 covers-refused t from m r = record { lines = []; times = of_refused no_item; in_order = refl }
 

@@ -1,9 +1,8 @@
 -- How a recording ends, and all that is printed for it (docs/RULES.md, 'Mending a recording'): what the meaning of a recording comes to, read from its end.
-use Rattle.std.specs.Prelude.{ℕ, ◌+◌, ◌≡◌, true, false, cond, List, [], ◌∷◌, ◌++◌, length}
+use Rattle.std.specs.Prelude.{ℕ, ◌+◌, ◌≡◌, true, false, cond, List, [], ◌∷◌, ◌++◌, length, Err}
 use Rattle.series.specs.Scan.{each}
-use Rattle.vocabulary.specs.declared.refusal.Refusal.{Refusal}
 use Rattle.vocabulary.specs.declared.refusal.Refusal.TheVariants.{NoEnd}
-use Rattle.vocabulary.specs.Refusals.{accepted}
+use Rattle.vocabulary.specs.Refusals.{Ruling, accepted}
 use Rattle.vocabulary.specs.Grounds.{Earliest}
 use Rattle.vocabulary.specs.declared.header.Header.{Header}
 use Rattle.vocabulary.specs.declared.recorded.Recorded.{Recorded}
@@ -35,7 +34,7 @@ pub data Ending : Type 0 where
   -- by E, with what was given before it
   whole : SoFar → Ending
   -- by a refusal: what was given before it, the number of the refused line, and why it is refused
-  refused_at : SoFar → ℕ → Refusal → Ending
+  refused_at : SoFar → ℕ → Ruling → Ending
   -- without either: what was given, and the number of complete lines plus 1
   short : SoFar → ℕ → Ending
 
@@ -64,7 +63,7 @@ given_in (short so n) = so
 abbrev pub refusal_in : Ending → List Item
 refusal_in (whole so) = []
 refusal_in (refused_at so n refusal) = refused n refusal ∷ []
-refusal_in (short so n) = refused n NoEnd ∷ []
+refusal_in (short so n) = refused n (Err NoEnd) ∷ []
 
 -- ---- what an ending says of the lines
 
@@ -93,7 +92,7 @@ pub record AcceptedRecording (input : List ℕ) (h : Header) (rows : List Record
   pub items : recording input ≡ items_of (grid_of h) rows ++ fillings (grid_of h) rows (grid_of h).places
 
 -- A REFUSED RECORDING: the lines before the refused one are accepted; printed is what they say, and R with the line's number and the first ground that holds
-pub record RefusedRecording (input : List ℕ) (so : SoFar) (n : ℕ) (refusal : Refusal) : Type 0 where
+pub record RefusedRecording (input : List ℕ) (so : SoFar) (n : ℕ) (refusal : Ruling) : Type 0 where
   pub before : List (List ℕ)
   pub line : List ℕ
   pub rest : List (List ℕ)
@@ -110,7 +109,7 @@ pub record ShortRecording (input : List ℕ) (so : SoFar) (n : ℕ) : Type 0 whe
   pub accepts : Accepts nothing (lines_of input) so
   pub says : SaysSo (lines_of input) so
   pub number : n ≡ length (lines_of input) + 1
-  pub items : recording input ≡ printed so ++ (refused n NoEnd ∷ [])
+  pub items : recording input ≡ printed so ++ (refused n (Err NoEnd) ∷ [])
 
 -- EXACTLY ONE OF THEM: the one that `ending_of` names
 abbrev pub EndsSo : List ℕ → Ending → Type 0

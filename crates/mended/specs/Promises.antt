@@ -2,7 +2,7 @@
 use Rattle.std.specs.Prelude.{ℕ, zero, suc, ◌+◌, ◌*◌, ◌≤◌, ◌≡◌, List, [], ◌∷◌, ◌++◌, ℤ, length}
 use Rattle.arithmetic.specs.Whole.{up}
 use Rattle.series.specs.Scan.{each}
-use Rattle.vocabulary.specs.declared.refusal.Refusal.{Refusal}
+use Rattle.vocabulary.specs.Refusals.{Ruling}
 use Rattle.vocabulary.specs.declared.header.Header.{Header}
 use Rattle.vocabulary.specs.declared.sample.Sample.{Sample}
 use Rattle.vocabulary.specs.declared.recorded.Recorded.{Recorded}
@@ -55,7 +55,7 @@ pub data Times : List Item → List Recorded → List Timed → Type 0 where
       → Times (filled second x ∷ items) good (record { second = second; sample = x } ∷ lines)
   of_kept : (row : Recorded) {items : List Item} {good : List Recorded} {lines : List Timed} → Times items good lines
       → Times (kept row.sample ∷ items) (row ∷ good) (record { second = up row.second; sample = row.sample } ∷ lines)
-  of_refused : {n : ℕ} {refusal : Refusal} {items : List Item} {good : List Recorded} {lines : List Timed} → Times items good lines → Times (refused n refusal ∷ items) good lines
+  of_refused : {n : ℕ} {refusal : Ruling} {items : List Item} {good : List Recorded} {lines : List Timed} → Times items good lines → Times (refused n refusal ∷ items) good lines
 
 -- so many seconds from place k on: k × interval, (k + 1) × interval, ..
 unfoldable pub seconds : ℕ → ℕ → ℕ → List ℕ

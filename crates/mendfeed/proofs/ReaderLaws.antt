@@ -1,8 +1,9 @@
 -- The reader's steps, as parts of one call.
 -- Assumes nothing.
-use Rattle.std.proofs.Common.{◌≡◌, ℕ, ◌+◌, ◌-◌, ◌<◌, ◌≤◌, Bool, true, false, cond, List, [], ◌++◌, length, take, drop, sym, refl, ap, ◌∙◌, subst, append_assoc, append-nil, add-zero, arith, length-append, length-drop, drop_of_length-le, drop-drop, le-ltb, lt-ltb}
+use Rattle.std.proofs.Common.{◌≡◌, ℕ, ◌+◌, ◌-◌, ◌<◌, ◌≤◌, min, Bool, true, false, cond, List, [], ◌++◌, length, take, drop, sym, refl, ap, ◌∙◌, subst, append_assoc, append-nil, add-zero, arith, length-append, length-drop, drop_of_length-le, drop-drop, le-ltb, lt-ltb}
+use Rattle.std.proofs.lemmas.List.{take_min}
 use Rattle.fields.proofs.DigitLaws.{to_end}
-use Rattle.lines.specs.Feed.{Outcome, stay, line_at}
+use Rattle.lines.specs.Feed.{Outcome, stay}
 use Rattle.lines.specs.Within.{and_then, rests}
 use Rattle.lines.specs.Gathering.{fresh_of, gathered_of}
 use Rattle.lines.specs.Handing.{held_by}
@@ -13,7 +14,7 @@ use Rattle.lines.proofs.WithinLaws.{by-line, line_then, on_gathered, rests-there
 use Rattle.print.specs.Print.{Wrote, last}
 use Rattle.print.proofs.Writing.{wrote_nothing, join, at-start, measured, wrote-length}
 use Rattle.sheets.specs.Buffer.{over}
-use Rattle.sheets.specs.declared.Printed.TheVariants.{Length}
+use Rattle.std.specs.Prelude.{Ok}
 use Rattle.sheets.proofs.Yielding as yields
 use Rattle.sheets.proofs.Yielding.{long-enough}
 use Rattle.mending.specs.Mender.{Turn, Turns, line_room, line_turn, finish_turn}
@@ -27,9 +28,11 @@ use Rattle.mendfeed.specs.declared.Moved.{Moved}
 use Rattle.mendfeed.specs.declared.Fed.{Fed}
 
 -- a line by the bytes that are kept of it
-pub same_line : (m : Mender) (g : Gatherer) {n k : ℕ} {bytes : List ℕ} → bytes ≡ g.bytes → n ≡ g.count → k ≡ g.length → line_turn m n (take k bytes) ≡ line_turn m g.count (held_by g)
+pub same_line : (m : Mender) (g : Gatherer) {n k : ℕ} {bytes : List ℕ} → bytes ≡ g.bytes → n ≡ g.count → k ≡ min g.length (length bytes)
+    → line_turn m n (take k bytes) ≡ line_turn m g.count (held_by g)
 same_line m g {n} {k} {bytes} p q r =
-    ap (λ (x : ℕ). line_turn m x (take k bytes)) q ∙ ap (λ (x : ℕ). line_turn m g.count (take x bytes)) r ∙ ap (λ (b : List ℕ). line_turn m g.count (take g.length b)) p
+    ap (λ (x : ℕ). line_turn m x (take k bytes)) q
+    ∙ ap (line_turn m g.count) (ap (λ (x : ℕ). take x bytes) r ∙ take_min g.length bytes ∙ ap (take g.length) p)
 
 -- ---- A LINE, OR THE REST OF THE BLOCK
 
@@ -219,14 +222,14 @@ pub too_short : (out : List ℕ) (reader : Reader) (o : Outcome Mender) → leng
 too_short out reader o h = yields.too_short (λ (f : Fed). f.printed) line_room out (unfed_of reader) (fed_of o) o.text h refl
 
 pub fed-whole : {out out' : List ℕ} {reader : Reader} {block : List ℕ} {r : Moved} → line_room ≤ length out → Reads reader block out r out'
-    → Yields out reader (feed_of (length out) reader block) (record { reader = r.reader; used = r.used; printed = Length r.next }) out'
+    → Yields out reader (feed_of (length out) reader block) (record { reader = r.reader; used = r.used; printed = Ok r.next }) out'
 fed-whole {out} {out'} {reader} {block} {r} h t =
     let o : Outcome Mender = feed_of (length out) reader block in
     long-enough (λ (f : Fed). f.printed) line_room out (unfed_of reader) (fed_of o) o.text h
-    (λ i. record { reader = t.reader_is i; used = t.used i; printed = Length (t.next i) }) t.bytes (omega (arith, t.room, t.next))
+    (λ i. record { reader = t.reader_is i; used = t.used i; printed = Ok (t.next i) }) t.bytes (omega (arith, t.room, t.next))
 
 pub finished : {out out' : List ℕ} {reader : Reader} {n : ℕ} {told : Told} → line_room ≤ length out → n ≡ reader.gatherer.count → Turns out 0 (finish_turn reader.mender n) told out'
-    → Yields out reader (finish_of reader) (record { reader = record { gatherer = reader.gatherer; mender = told.mender }; used = 0; printed = Length told.next }) out'
+    → Yields out reader (finish_of reader) (record { reader = record { gatherer = reader.gatherer; mender = told.mender }; used = 0; printed = Ok told.next }) out'
 finished {out} {out'} {reader} {n} {told} h e t =
     let same : finish_turn reader.mender n ≡ finish_turn reader.mender reader.gatherer.count = ap (finish_turn reader.mender) e in
     let u : Turns out 0 (finish_turn reader.mender reader.gatherer.count) told out' = as-turn same t in
@@ -234,5 +237,5 @@ finished {out} {out'} {reader} {n} {told} h e t =
     let few : length text ≤ length out = omega (arith, u.text.short) in
     let far : length out ≤ last = u.text.wrote.reach in
     long-enough (λ (f : Fed). f.printed) line_room out (unfed_of reader) (fed_of (finish_of reader)) text h
-    (λ i. record { reader = record { gatherer = reader.gatherer; mender = u.mender i }; used = 0; printed = Length (measured u.text.wrote (omega arith) i) })
+    (λ i. record { reader = record { gatherer = reader.gatherer; mender = u.mender i }; used = 0; printed = Ok (measured u.text.wrote (omega arith) i) })
     (at-start u.text.wrote few) few

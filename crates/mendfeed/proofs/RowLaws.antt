@@ -1,5 +1,6 @@
 -- Recorded samples that are read straight out of the block come to the same as a line at a time.
 -- Assumes nothing.
+use Rattle.std.specs.Prelude.{Some, None}
 use Rattle.std.proofs.Common.{◌≡◌, ℕ, zero, suc, ◌+◌, ◌-◌, ◌%◌, ◌^◌, ◌<◌, ◌≤◌, true, List, ◌∷◌, length, drop, sym, refl, ap, ◌∙◌, subst, add-one, arith, length-append, length-drop, drop-drop}
 use native.Mathlib.Nat.{mod-add-mod}
 use Rattle.arithmetic.proofs.Booleans.{true-false}
@@ -16,11 +17,12 @@ use Rattle.samples.specs.declared.recorded.RecordedLine.{RecordedLine}
 use Rattle.samples.proofs.RecordedMeaning.{Enters}
 use Rattle.print.specs.Print.{last}
 use Rattle.print.proofs.Writing.{wrote-length}
-use Rattle.mending.specs.Mender.{Turn, Turns, line_room, line_turn, row_turn, next_turn, turn_at, open_at, closed_at}
-use Rattle.mendfeed.specs.Reader.{closed_of, feed_of}
-use Rattle.mendfeed.specs.Steps.{Moves, So, Ready, past_rows, ran_from, Runnable, Runs, Tries, Steps}
-use Rattle.mending.specs.declared.mender.Stage.{Stage}
-use Rattle.mending.specs.declared.mender.Stage.TheVariants.{Empty, Open, Closed}
+use Rattle.mending.specs.Mender.{Turn, Turns, line_room, line_turn, row_turn, next_turn, turn_at}
+use Rattle.vocabulary.specs.Stage.{open_at, closed_at}
+use Rattle.mendfeed.specs.Reader.{closed_of}
+use Rattle.mendfeed.specs.Steps.{Moves, So, Ready, past_rows, ran_from, Runnable, Rows, Runs, Tries, Steps}
+use Rattle.vocabulary.specs.declared.stage.Stage.{Stage}
+use Rattle.vocabulary.specs.declared.stage.Stage.TheVariants.{Empty, Open, Closed}
 use Rattle.mending.specs.declared.mender.Mender.{Mender}
 use Rattle.mending.specs.declared.mender.Told.{Told}
 use Rattle.mendfeed.specs.declared.Reader.{Reader}
@@ -132,6 +134,24 @@ row-runs {count} {block} {ran} {e} {out} {n} {rows} {told} {out'} w ready l q nu
         subst (λ (y : Gatherer). So (ran_from g ran) block ran.to out ran.next (record { gatherer = y; mender = told.mender }) e.to told.next out') g'
         (subst (λ (x : ℕ). So (ran_from g ran) block ran.to out ran.next (record { gatherer = past_of 1 (past_rows ran.rows g); mender = told.mender }) x told.next out') (sym l.place) so)
 
+-- one more, or none
+module _ {count : ℕ} {block : List ℕ} {ran : Ran} {out : List ℕ} where
+  pub no-row : Rows count block ran out None out
+  no-row =
+      record {
+        none = λ e. refl;
+        one = λ m e. absurd (let z : ◌≡◌ {A = ℕ} 0 1 = cc in (omega arith));
+        runs = λ m e. absurd (let z : ◌≡◌ {A = ℕ} 0 1 = cc in (omega arith));
+      }
+
+  pub a-row : {more : Ran} {out' : List ℕ} → more.rows ≡ ran.rows + 1 → Runs count block ran out more out' → Rows count block ran out (Some more) out'
+  a-row {more} {out'} q w =
+      record {
+        none = λ e. absurd (let z : ◌≡◌ {A = ℕ} 0 1 = cc in (omega arith));
+        one = λ m e. (let k : more ≡ m = cc in ap (λ (r : Ran). r.rows) (sym k) ∙ q);
+        runs = λ m e. (let k : more ≡ m = cc in subst (λ (r : Ran). Runs count block ran out r out') k w);
+      }
+
 -- the buffer keeps its length
 pub runs-length : {count : ℕ} {block : List ℕ} {ran : Ran} {out : List ℕ} {r : Ran} {out' : List ℕ} → Runs count block ran out r out' → length out' ≡ length out
 runs-length {count} w = wrote-length (w.so (start_at count) (record { room = refl; nothing = refl }) refl).wrote
@@ -144,23 +164,26 @@ past-some (suc n) g h = refl
 
 module _ {reader : Reader} {block : List ℕ} {at : ℕ} {out : List ℕ} {from count : ℕ} {r : Ran} {out' : List ℕ}
     (w : Runs count block (record { mender = reader.mender; rows = 0; to = at; next = from }) out r out') where
-  pub tried-none : r.rows ≡ 0 → Tries reader block at out from (record { reader = reader; used = 0; next = from }) out'
-  tried-none e = record { none = λ z. w.none e; some = λ h. absurd (omega arith) }
+  pub tried-none : r.rows ≡ 0 → Tries reader block at out from None out'
+  tried-none e = record { none = λ z. w.none e; some = λ m z. absurd (let q : ◌≡◌ {A = ℕ} 0 1 = cc in (omega arith)) }
 
   pub tried-some : {g : Gatherer} → Start reader.gatherer → count ≡ reader.gatherer.count → (r.rows ≡ 0 → ⊥) → g ≡ past_of r.rows reader.gatherer
-      → Tries reader block at out from (record { reader = record { gatherer = g; mender = r.mender }; used = r.to - at; next = r.next }) out'
+      → Tries reader block at out from (Some (record { reader = record { gatherer = g; mender = r.mender }; used = r.to - at; next = r.next })) out'
   tried-some {g} s k n e =
       let far : at < r.to = omega (arith, w.far, n) in
       let place : r.to ≡ at + (r.to - at) = omega (arith, far) in
       let past : past_rows r.rows reader.gatherer ≡ g = past-some r.rows reader.gatherer n ∙ sym e in
       let so = w.so reader.gatherer s (sym k) in
+      let moved : Moved = record { reader = record { gatherer = g; mender = r.mender }; used = r.to - at; next = r.next } in
+      let steps : Steps reader block at out from moved out' =
       record {
-        none = λ z. absurd (omega (arith, far));
-        some = λ h. record {
-          within = omega (arith, place, w.still.within);
-          some = omega (arith, far);
-          so =
-              subst (λ (i : ℕ). So reader block at out from (record { gatherer = g; mender = r.mender }) i r.next out') place
-              (subst (λ (y : Gatherer). So reader block at out from (record { gatherer = y; mender = r.mender }) r.to r.next out') past so);
-        };
+        within = omega (arith, place, w.still.within);
+        some = omega (arith, far);
+        so =
+            subst (λ (i : ℕ). So reader block at out from (record { gatherer = g; mender = r.mender }) i r.next out') place
+            (subst (λ (y : Gatherer). So reader block at out from (record { gatherer = y; mender = r.mender }) r.to r.next out') past so);
+      } in
+      record {
+        none = λ z. absurd (let q : ◌≡◌ {A = ℕ} 0 1 = cc in (omega arith));
+        some = λ m z. (let q : moved ≡ m = cc in subst (λ (x : Moved). Steps reader block at out from x out') q steps);
       }

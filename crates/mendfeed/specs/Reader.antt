@@ -1,11 +1,12 @@
 -- What the calls of the reader of a recording make of a block of it, and of its end (docs/RULES.md, 'Text').
-use Rattle.std.specs.Prelude.{ℕ, Bool, List, length}
+use Rattle.std.specs.Prelude.{ℕ, Bool, List, length, Ok, Err}
 use Rattle.lines.specs.Gathering.{empty_gatherer}
 use Rattle.lines.specs.Feed.{Outcome}
 use Rattle.lines.specs.Within.{feed_within}
 use Rattle.sheets.specs.Buffer as buffer
-use Rattle.sheets.specs.declared.Printed.TheVariants.{Length, TooShort}
-use Rattle.mending.specs.Mender.{empty_mender, closed_at, line_room, line_turn, finish_turn}
+use Rattle.vocabulary.specs.declared.refusal.Refusal.TheVariants.{BufferTooShort}
+use Rattle.vocabulary.specs.Stage.{closed_at}
+use Rattle.mending.specs.Mender.{empty_mender, line_room, line_turn, finish_turn}
 use Rattle.mending.specs.declared.mender.Mender.{Mender}
 use Rattle.mendfeed.specs.declared.Reader.{Reader}
 use Rattle.mendfeed.specs.declared.Fed.{Fed}
@@ -37,10 +38,10 @@ reader_of o = record { gatherer = o.gatherer; mender = o.desk }
 
 -- what a call answers; one that is lent a buffer too short for a line's text does nothing
 abbrev pub unfed_of : Reader → Fed
-unfed_of reader = record { reader = reader; used = 0; printed = TooShort }
+unfed_of reader = record { reader = reader; used = 0; printed = Err BufferTooShort }
 
 abbrev pub fed_of : Outcome Mender → Fed
-fed_of o = record { reader = reader_of o; used = o.used; printed = Length (length o.text) }
+fed_of o = record { reader = reader_of o; used = o.used; printed = Ok (length o.text) }
 
 abbrev pub Yields : List ℕ → Reader → Outcome Mender → Fed → List ℕ → Type 0
 Yields out reader o r out' = buffer.Yields (λ (f : Fed). f.printed) line_room out (unfed_of reader) (fed_of o) o.text r out'

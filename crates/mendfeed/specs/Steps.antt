@@ -1,12 +1,12 @@
 -- The parts of a call, as the code has them.
-use Rattle.std.specs.Prelude.{◌≡◌, ℕ, zero, suc, ◌+◌, ◌-◌, ◌<◌, ◌≤◌, false, List, length, drop}
+use Rattle.std.specs.Prelude.{◌≡◌, ℕ, zero, suc, ◌+◌, ◌-◌, ◌<◌, ◌≤◌, false, List, length, drop, Option, Some, None}
 use Rattle.lines.specs.Gathering.{past_of}
 use Rattle.lines.specs.Feed.{Start}
 use Rattle.lines.specs.Within.{and_then, rests}
 use Rattle.lines.specs.declared.Gatherer.{Gatherer}
 use Rattle.print.specs.Print.{Wrote}
 use Rattle.mending.specs.Mender.{line_room, line_turn}
-use Rattle.mending.specs.declared.mender.Stage.TheVariants.{Open}
+use Rattle.vocabulary.specs.declared.stage.Stage.TheVariants.{Open}
 use Rattle.mending.specs.declared.mender.Mender.{Mender}
 use Rattle.sheets.specs.Buffer.{over}
 use Rattle.mendfeed.specs.Reader.{closed_of, feed_of, reader_of}
@@ -61,6 +61,12 @@ pub record Runs (count : ℕ) (block : List ℕ) (ran : Ran) (out : List ℕ) (r
   pub none : r.rows ≡ ran.rows → out' ≡ out
   pub so : (g : Gatherer) → Start g → g.count ≡ count → So (ran_from g ran) block ran.to out ran.next (ran_from g r) r.to r.next out'
 
+-- one more, or none
+pub record Rows (count : ℕ) (block : List ℕ) (ran : Ran) (out : List ℕ) (r : Option Ran) (out' : List ℕ) : Type 0 where
+  pub none : r ≡ None → out' ≡ out
+  pub one : (more : Ran) → r ≡ Some more → more.rows ≡ ran.rows + 1
+  pub runs : (more : Ran) → r ≡ Some more → Runs count block ran out more out'
+
 -- one line, or the rest of the block, or recorded samples
 pub record Steps (reader : Reader) (block : List ℕ) (at : ℕ) (out : List ℕ) (from : ℕ) (r : Moved) (out' : List ℕ) : Type 0 where
   pub within : at + r.used ≤ length block
@@ -68,9 +74,9 @@ pub record Steps (reader : Reader) (block : List ℕ) (at : ℕ) (out : List ℕ
   pub so : So reader block at out from r.reader (at + r.used) r.next out'
 
 -- recorded samples, if there are any
-pub record Tries (reader : Reader) (block : List ℕ) (at : ℕ) (out : List ℕ) (from : ℕ) (r : Moved) (out' : List ℕ) : Type 0 where
-  pub none : r.used ≡ 0 → out' ≡ out
-  pub some : 0 < r.used → Steps reader block at out from r out'
+pub record Tries (reader : Reader) (block : List ℕ) (at : ℕ) (out : List ℕ) (from : ℕ) (r : Option Moved) (out' : List ℕ) : Type 0 where
+  pub none : r ≡ None → out' ≡ out
+  pub some : (moved : Moved) → r ≡ Some moved → Steps reader block at out from moved out'
 
 -- all of them
 pub record Reads (reader : Reader) (block out : List ℕ) (r : Moved) (out' : List ℕ) : Type 0 where

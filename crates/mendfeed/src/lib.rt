@@ -2,20 +2,20 @@
 // and a call goes on as long as there is room for one line more.
 #![tactic(auto)]
 
-ghost use Rattle.std.specs.Prelude.{◌≡◌, ◌-◌, ◌<◌, ◌≤◌, true, false, length, take};
+ghost use Rattle.std.specs.Prelude.{◌≡◌, ◌-◌, ◌<◌, ◌≤◌, true, false, length};
 ghost use Rattle.lines.specs.Feed.{Start};
 ghost use Rattle.lines.specs.Handing.{held_by};
 ghost use Rattle.samples.specs.Scan.{Cut};
-ghost use Rattle.mending.specs.Mender.{Turns, closed_at, line_room, line_turn};
+ghost use Rattle.mending.specs.Mender.{Turns, line_room, line_turn};
 ghost use Rattle.mendfeed.specs.Reader.{empty_reader, feed_of, finish_of, Yields};
-ghost use Rattle.mendfeed.specs.Steps.{Moves, Ready, Runnable, Runs, Tries, Steps, Reads};
+ghost use Rattle.mendfeed.specs.Steps.{Moves, Ready, Runnable, Rows, Runs, Tries, Steps, Reads};
+ghost use Rattle.vocabulary.specs.Stage.{closed_at};
 
 use lines::Gatherer;
 use mending::mender::{Mender, Told};
 use samples::complete;
-use samples::recorded::{FirstRecorded, recorded_at};
-use sheets::Printed;
-use std::num::wrapping_add_u64;
+use samples::recorded::recorded_at;
+use vocabulary::refusal::Refusal;
 
 // No line's text is longer: 60 missing samples, each with its mark, and the line's own sample.
 pub const ROOM: usize = 4184;
@@ -33,7 +33,7 @@ pub struct Reader {
 pub struct Fed {
     pub reader: Reader,
     pub used: usize,
-    pub printed: Printed,
+    pub printed: Result<usize, Refusal>,
 }
 
 // The reader after some bytes of a block, and the place after what was printed.
@@ -53,59 +53,43 @@ pub struct Ran {
     next: usize,
 }
 
-// A line of which so many bytes are kept.
-fn told(mender: Mender, number: u64, bytes: &[u8], kept: usize, out: &mut [u8], at: usize) -> Told
-    ensures { Turns out.old at (line_turn mender number (take kept bytes.now)) result out.new }
-{
-    if kept < bytes.len() {
-        return mender.line(number, &bytes[..kept], out, at);
-    }
-    mender.line(number, bytes, out, at)
-}
-
+// The line that a gatherer holds.
 fn served(mender: Mender, gatherer: Gatherer, out: &mut [u8], at: usize) -> Told
     ensures { Turns out.old at (line_turn mender gatherer.count (held_by gatherer)) result out.new }
 {
     let bytes = gatherer.bytes();
-    told(mender, gatherer.count(), &bytes, gatherer.length(), out, at)
+    let kept = gatherer.length().min(bytes.len());
+    mender.line(gatherer.count(), &bytes[..kept], out, at)
 }
 
 // Whether lines are taken, and there is room for what one of them prints.
 fn is_ready(mender: Mender, room: usize) -> bool
     ensures { result ≡ true → Ready mender room }
 {
-    if room < ROOM {
-        return false;
-    }
-    mender.is_open()
+    ROOM <= room && mender.is_open()
 }
 
 // One recorded sample more, if one comes next among the complete lines and the mender is ready for it.
-fn row_at(ran: Ran, count: u64, block: &[u8], end: usize, out: &mut [u8]) -> Ran
+fn row_at(ran: Ran, count: u64, block: &[u8], end: usize, out: &mut [u8]) -> Option<Ran>
     requires cut { Cut block.now end }
     requires runnable { Runnable block.now ran out.old }
     requires to_lt_end { ran.to < end }
-    ensures { Runs count block.now ran out.old result out.new }
+    ensures { Rows count block.now ran out.old result out.new }
 {
-    let mender = ran.mender;
-    let at = ran.to;
-    let from = ran.next;
-    if !is_ready(mender, out.len() - from) {
-        return ran;
+    if !is_ready(ran.mender, out.len() - ran.next) {
+        return None;
     }
-    let FirstRecorded::Of(line) = recorded_at(&block[..end], at) else {
-        return ran;
-    };
+    let line = recorded_at(&block[..end], ran.to)?;
     let rows = ran.rows + 1;
-    let recorded = line.recorded;
-    let answer = mender.row(wrapping_add_u64(count, rows), recorded, out, from);
-    let after = answer.mender;
-    Ran {
-        mender: after,
+    let told = ran
+        .mender
+        .row(count.wrapping_add(rows), line.recorded, out, ran.next);
+    Some(Ran {
+        mender: told.mender,
         rows,
         to: line.to,
-        next: answer.next,
-    }
+        next: told.next,
+    })
 }
 
 // As many as there are. It runs for every line, so the line at hand stays out of it.
@@ -116,10 +100,9 @@ fn rows_at(ran: Ran, count: u64, block: &[u8], end: usize, out: &mut [u8]) -> Ra
 {
     let mut so = ran;
     while so.to < end {
-        let more = row_at(so, count, block, end, out);
-        if more.rows == so.rows {
-            return more;
-        }
+        let Some(more) = row_at(so, count, block, end, out) else {
+            return so;
+        };
         so = more;
     }
     so
@@ -140,8 +123,7 @@ impl Reader {
     pub fn is_closed(self) -> bool
         ensures { result ≡ closed_at self.mender.stage }
     {
-        let mender = self.mender;
-        mender.is_closed()
+        self.mender.is_closed()
     }
 
     // On to the next line end, or to the end of the block.
@@ -149,65 +131,61 @@ impl Reader {
         requires { at < length block.now }
         ensures { Moves self block.now at out.old from result out.new }
     {
-        let gatherer = self.gatherer;
-        let mender = self.mender;
-        let part = gatherer.gather(&block[at..]);
-        let at_hand = part.gatherer;
+        let part = self.gatherer.gather(&block[at..]);
         if !part.complete {
             return Moved {
                 reader: Reader {
-                    gatherer: at_hand,
-                    mender,
+                    gatherer: part.gatherer,
+                    ..self
                 },
                 used: part.used,
                 next: from,
             };
         }
-        let answer = served(mender, at_hand, out, from);
-        let after = answer.mender;
+        let told = served(self.mender, part.gatherer, out, from);
         Moved {
             reader: Reader {
-                gatherer: at_hand.fresh(),
-                mender: after,
+                gatherer: part.gatherer.fresh(),
+                mender: told.mender,
             },
             used: part.used,
-            next: answer.next,
+            next: told.next,
         }
     }
 
     // As many recorded samples as there are, from the start of a line.
-    fn stretch_at(self, block: &[u8], end: usize, at: usize, out: &mut [u8], from: usize) -> Moved
+    fn stretch_at(
+        self,
+        block: &[u8],
+        end: usize,
+        at: usize,
+        out: &mut [u8],
+        from: usize,
+    ) -> Option<Moved>
         requires cut { Cut block.now end }
         requires at_in_bounds { at < length block.now }
         requires from_in_bounds { from ≤ length out.old }
         requires start { Start self.gatherer }
         ensures { Tries self block.now at out.old from result out.new }
     {
-        let gatherer = self.gatherer;
-        let mender = self.mender;
         let ran = Ran {
-            mender,
+            mender: self.mender,
             rows: 0,
             to: at,
             next: from,
         };
-        let done = rows_at(ran, gatherer.count(), block, end, out);
+        let done = rows_at(ran, self.gatherer.count(), block, end, out);
         if done.rows == 0 {
-            return Moved {
-                reader: self,
-                used: 0,
-                next: from,
-            };
+            return None;
         }
-        let after = done.mender;
-        Moved {
+        Some(Moved {
             reader: Reader {
-                gatherer: gatherer.past(done.rows),
-                mender: after,
+                gatherer: self.gatherer.past(done.rows),
+                mender: done.mender,
             },
             used: done.to - at,
             next: done.next,
-        }
+        })
     }
 
     // Recorded samples where a line starts, else a line.
@@ -218,15 +196,13 @@ impl Reader {
         requires line_room_in_bounds { line_room ≤ length out.old - from }
         ensures { Steps self block.now at out.old from result out.new }
     {
-        let gatherer = self.gatherer;
-        if !gatherer.at_start() {
+        if !self.gatherer.at_start() {
             return self.line_at(block, at, out, from);
         }
-        let moved = self.stretch_at(block, end, at, out, from);
-        if 0 < moved.used {
-            return moved;
+        match self.stretch_at(block, end, at, out, from) {
+            Some(moved) => moved,
+            None => self.line_at(block, at, out, from),
         }
-        self.line_at(block, at, out, from)
     }
 
     // On until the room may be too short, the mender is closed, or the block ends.
@@ -238,14 +214,7 @@ impl Reader {
         let mut i = 0;
         let mut next = 0;
         while i < block.len() {
-            if reader.is_closed() {
-                return Moved {
-                    reader,
-                    used: i,
-                    next,
-                };
-            }
-            if out.len() - next < ROOM {
+            if reader.is_closed() || out.len() - next < ROOM {
                 return Moved {
                     reader,
                     used: i,
@@ -253,8 +222,7 @@ impl Reader {
                 };
             }
             let moved = reader.step(block, end, i, out, next);
-            let after = moved.reader;
-            reader = after;
+            reader = moved.reader;
             i += moved.used;
             next = moved.next;
         }
@@ -273,15 +241,14 @@ impl Reader {
             return Fed {
                 reader: self,
                 used: 0,
-                printed: Printed::TooShort,
+                printed: Err(Refusal::BufferTooShort),
             };
         }
         let moved = self.read_on(block, out);
-        let after = moved.reader;
         Fed {
-            reader: after,
+            reader: moved.reader,
             used: moved.used,
-            printed: Printed::Length(moved.next),
+            printed: Ok(moved.next),
         }
     }
 
@@ -293,20 +260,17 @@ impl Reader {
             return Fed {
                 reader: self,
                 used: 0,
-                printed: Printed::TooShort,
+                printed: Err(Refusal::BufferTooShort),
             };
         }
-        let gatherer = self.gatherer;
-        let mender = self.mender;
-        let answer = mender.finish(gatherer.count(), out, 0);
-        let after = answer.mender;
+        let told = self.mender.finish(self.gatherer.count(), out, 0);
         Fed {
             reader: Reader {
-                gatherer,
-                mender: after,
+                mender: told.mender,
+                ..self
             },
             used: 0,
-            printed: Printed::Length(answer.next),
+            printed: Ok(told.next),
         }
     }
 }

@@ -1,5 +1,5 @@
 -- The grid: places and seconds.
-use Rattle.std.proofs.Common.{◌≡◌, ℕ, ◌+◌, ◌-◌, ◌*◌, ◌/◌, ◌%◌, ◌<◌, ◌≤◌, Bool, true, false, not, ◌||◌, eqb, ltb, leb, ℤ, pos, sym, refl, ap, ◌∙◌, div-add-mod', zero-mul, arith, le-ltb, lt-ltb, eq-eqb, ne_eqb}
+use Rattle.std.proofs.Common.{◌≡◌, ℕ, ◌+◌, ◌-◌, ◌*◌, ◌/◌, ◌%◌, ◌<◌, ◌≤◌, true, false, not, eqb, ltb, leb, ℤ, pos, sym, ◌∙◌, div-add-mod', zero-mul, arith, le-ltb, eq-eqb, ne_eqb}
 use native.Mathlib.Decide.{ℕ_discrete}
 use lib.Signed.{lt_z}
 use Rattle.arithmetic.specs.Whole.{up}

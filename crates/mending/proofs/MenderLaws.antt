@@ -1,12 +1,11 @@
 -- What is printed for one line, and that no hole that is filled in is longer than 60 samples.
-use Rattle.std.proofs.Common.{◌≡◌, ℕ, ◌+◌, ◌-◌, ◌*◌, ◌≤◌, Bool, true, false, not, ◌&&◌, eqb, ltb, List, [], ◌∷◌, ◌++◌, length, ℤ, sym, refl, ap, ◌∙◌, arith, ltb-false}
+use Rattle.std.proofs.Common.{◌≡◌, ℕ, ◌-◌, ◌*◌, ◌≤◌, Bool, true, false, not, ◌&&◌, eqb, ltb, List, [], ◌∷◌, ◌++◌, ℤ, refl, ap, ◌∙◌, arith, ltb-false}
 use Rattle.arithmetic.proofs.Booleans.{true-false}
 use Rattle.vocabulary.specs.declared.interval.Interval.{Interval}
 use Rattle.vocabulary.specs.declared.interval.Interval.TheVariants.{One, Three, Four}
 use Rattle.vocabulary.specs.Interval.{windows_of}
-use Rattle.vocabulary.specs.declared.refusal.Refusal.{Refusal}
 use Rattle.vocabulary.specs.declared.refusal.Refusal.TheVariants.{NoFirstSample, HoleTooLong}
-use Rattle.vocabulary.specs.Refusals.{accepted}
+use Rattle.vocabulary.specs.Refusals.{Ruling, accepted}
 use Rattle.vocabulary.specs.Grounds.{on, first}
 use Rattle.vocabulary.specs.declared.sample.Sample.{Sample}
 use Rattle.sheets.specs.Sheet.{refusal_text}
@@ -32,7 +31,7 @@ pub repeated-text : (second : ℤ) → items_text (repeated second ∷ []) ≡ m
 unfolding item_text
 repeated-text second = one-item (repeated second)
 
-pub refused-text : (n : ℕ) (refusal : Refusal) → items_text (refused n refusal ∷ []) ≡ refusal_text n refusal
+pub refused-text : (n : ℕ) (refusal : Ruling) → items_text (refused n refusal ∷ []) ≡ refusal_text n refusal
 unfolding item_text
 refused-text n refusal = one-item (refused n refusal)
 

@@ -1,8 +1,7 @@
 -- How the code holds what a recording has said, and what a line makes of that. `Mending` says the same over lists.
-use Rattle.std.specs.Prelude.{◌≡◌, ℕ, ◌+◌, ◌-◌, ◌*◌, ◌%◌, ◌^◌, ◌≤◌, Bool, true, false, cond, not, ◌&&◌, List, [], ◌∷◌, ◌++◌, length, ℤ, pos, ◌==◌, int_lt, nat_lt}
-use Rattle.vocabulary.specs.declared.refusal.Refusal.{Refusal}
-use Rattle.vocabulary.specs.declared.refusal.Refusal.TheVariants.{None, WrongMoment, BadPower, BadLine, NoEnd, NoFirstSample, HoleTooLong, SecondsOutOfOrder}
-use Rattle.vocabulary.specs.Refusals.{accepted}
+use Rattle.std.specs.Prelude.{◌≡◌, ℕ, ◌+◌, ◌-◌, ◌*◌, ◌%◌, ◌^◌, Bool, false, cond, not, ◌&&◌, List, [], ◌∷◌, ◌++◌, ℤ, pos, ◌==◌, int_lt, nat_lt, Option, Some, None, Ok, Err}
+use Rattle.vocabulary.specs.declared.refusal.Refusal.TheVariants.{WrongMoment, BadPower, BadLine, NoEnd, NoFirstSample, HoleTooLong, SecondsOutOfOrder}
+use Rattle.vocabulary.specs.Refusals.{Ruling, accepted}
 use Rattle.vocabulary.specs.Grounds.{on, first}
 use Rattle.vocabulary.specs.Sample.{power_in_range}
 use Rattle.vocabulary.specs.declared.interval.Interval.TheVariants.{One}
@@ -17,10 +16,8 @@ use Rattle.reading.specs.declared.entry.Entry.{Entry}
 use Rattle.reading.specs.declared.entry.Entry.TheVariants as E
 use Rattle.mending.specs.Mending.{Item, stray, repeated, kept, refused, grid_of, seconds_of, place_of, outside, filled_from, items_text}
 use Rattle.mending.specs.declared.grid.Grid.{Grid}
-use Rattle.mending.specs.declared.mender.Stage.{Stage}
-use Rattle.mending.specs.declared.mender.Stage.TheVariants.{Empty, Open, Closed}
-use Rattle.mending.specs.declared.mender.Before.{Before}
-use Rattle.mending.specs.declared.mender.Before.TheVariants.{Nothing, Second}
+use Rattle.vocabulary.specs.declared.stage.Stage.{Stage}
+use Rattle.vocabulary.specs.declared.stage.Stage.TheVariants.{Empty, Open, Closed}
 use Rattle.mending.specs.declared.mender.Sorted.{Sorted}
 use Rattle.mending.specs.declared.mender.Sorted.TheVariants.{Stray, Repeated, Good}
 use Rattle.mending.specs.declared.mender.Mender.{Mender}
@@ -34,9 +31,9 @@ abbrev pub turned : Mender → List Item → Turn
 turned m items = record { desk = m; text = items_text items }
 
 -- 21: a second smaller than that of the line just before
-abbrev pub earlier_than : Before → ℤ → Bool
-earlier_than Nothing second = false
-earlier_than (Second last) second = int_lt second last
+abbrev pub earlier_than : Option ℤ → ℤ → Bool
+earlier_than None second = false
+earlier_than (Some last) second = int_lt second last
 
 abbrev pub at_stage : Stage → Mender → Mender
 at_stage stage m = record { stage = stage; grid = m.grid; next = m.next; last = m.last; before = m.before }
@@ -44,7 +41,7 @@ at_stage stage m = record { stage = stage; grid = m.grid; next = m.next; last = 
 -- before the first line
 unfoldable pub empty_mender : Mender
 empty_mender =
-    record { stage = Empty; grid = record { interval = One; places = 0 }; next = 0; last = record { setpoint = pos 0; actual = pos 0 }; before = Nothing }
+    record { stage = Empty; grid = record { interval = One; places = 0 }; next = 0; last = record { setpoint = pos 0; actual = pos 0 }; before = None }
 
 -- after a header
 abbrev pub opened_by : Mender → Grid → Mender
@@ -57,20 +54,20 @@ unfoldable pub sorted_at : Mender → ℤ → Sorted
 sorted_at m second =
     cond (outside m.grid second) Stray (cond (nat_lt (place_of m.grid second) m.next) Repeated (Good (place_of m.grid second)))
 
-unfoldable pub hole_refusal : Mender → ℕ → Refusal
+unfoldable pub hole_refusal : Mender → ℕ → Ruling
 hole_refusal m place =
     first (on NoFirstSample (m.next == 0 && not (place == 0)) ∷ on HoleTooLong (nat_lt 60 ((place - m.next) * seconds_of m.grid)) ∷ [])
 
-abbrev pub sorted_refusal : Mender → Sorted → Refusal
-sorted_refusal m Stray = None
-sorted_refusal m Repeated = None
+abbrev pub sorted_refusal : Mender → Sorted → Ruling
+sorted_refusal m Stray = Ok tt
+sorted_refusal m Repeated = Ok tt
 sorted_refusal m (Good place) = hole_refusal m place
 
-unfoldable pub row_refusal : Mender → Sorted → Recorded → Refusal
+unfoldable pub row_refusal : Mender → Sorted → Recorded → Ruling
 row_refusal m sorted row =
-    cond (not (power_in_range row.sample.setpoint)) BadPower
-    (cond (not (power_in_range row.sample.actual)) BadPower
-    (cond (accepted (sorted_refusal m sorted)) (cond (earlier_than m.before row.second) SecondsOutOfOrder None)
+    cond (not (power_in_range row.sample.setpoint)) (Err BadPower)
+    (cond (not (power_in_range row.sample.actual)) (Err BadPower)
+    (cond (accepted (sorted_refusal m sorted)) (cond (earlier_than m.before row.second) (Err SecondsOutOfOrder) (Ok tt))
     (sorted_refusal m sorted)))
 
 -- what is missing up to a place
@@ -84,10 +81,10 @@ row_items m (Good place) row = rest_items m place ++ (kept row.sample ∷ [])
 
 -- after a line that is dropped, and after a good one
 abbrev pub dropped_at : Mender → ℤ → Mender
-dropped_at m second = record { stage = m.stage; grid = m.grid; next = m.next; last = m.last; before = Second second }
+dropped_at m second = record { stage = m.stage; grid = m.grid; next = m.next; last = m.last; before = Some second }
 
 abbrev pub taken_at : Mender → ℕ → Recorded → Mender
-taken_at m place row = record { stage = m.stage; grid = m.grid; next = place + 1; last = row.sample; before = Second row.second }
+taken_at m place row = record { stage = m.stage; grid = m.grid; next = place + 1; last = row.sample; before = Some row.second }
 
 abbrev pub with_row : Mender → Sorted → Recorded → Mender
 with_row m Stray row = dropped_at m row.second
@@ -96,16 +93,16 @@ with_row m (Good place) row = taken_at m place row
 
 -- ---- the end
 
-unfoldable pub end_refusal : Mender → Refusal
+unfoldable pub end_refusal : Mender → Ruling
 end_refusal m =
     first (on NoFirstSample (m.next == 0) ∷ on HoleTooLong (nat_lt 60 ((m.grid.places - m.next) * seconds_of m.grid)) ∷ [])
 
 -- ---- turns
 
-unfoldable pub refused_turn : Mender → ℕ → Refusal → Turn
+unfoldable pub refused_turn : Mender → ℕ → Ruling → Turn
 refused_turn m n refusal = turned (at_stage Closed m) (refused n refusal ∷ [])
 
-abbrev pub unless : Mender → ℕ → Refusal → Turn → Turn
+abbrev pub unless : Mender → ℕ → Ruling → Turn → Turn
 unless m n refusal turn = cond (accepted refusal) turn (refused_turn m n refusal)
 
 unfoldable pub open_turn : Mender → ℕ → Header → Turn
@@ -123,15 +120,15 @@ end_turn m n = unless m n (end_refusal m) (turned (at_stage Closed m) (rest_item
 -- before the header, and after it
 abbrev pub first_turn : Mender → ℕ → Entry → Turn
 first_turn m n (E.Header h) = open_turn m n h
-first_turn m n (E.Recorded row) = refused_turn m n WrongMoment
-first_turn m n E.End = refused_turn m n WrongMoment
-first_turn m n E.Malformed = refused_turn m n BadLine
+first_turn m n (E.Recorded row) = refused_turn m n (Err WrongMoment)
+first_turn m n E.End = refused_turn m n (Err WrongMoment)
+first_turn m n E.Malformed = refused_turn m n (Err BadLine)
 
 abbrev pub next_turn : Mender → ℕ → Entry → Turn
-next_turn m n (E.Header h) = refused_turn m n WrongMoment
+next_turn m n (E.Header h) = refused_turn m n (Err WrongMoment)
 next_turn m n (E.Recorded row) = row_turn m n row
 next_turn m n E.End = end_turn m n
-next_turn m n E.Malformed = refused_turn m n BadLine
+next_turn m n E.Malformed = refused_turn m n (Err BadLine)
 
 abbrev pub turn_at : Stage → Mender → ℕ → Entry → Turn
 turn_at Empty m n entry = first_turn m n entry
@@ -144,22 +141,12 @@ line_turn m n line = turn_at m.stage m n (entry_of line)
 
 -- the input ended after so many complete lines: 15
 abbrev pub finish_at : Stage → Mender → ℕ → Turn
-finish_at Empty m n = refused_turn m n NoEnd
-finish_at Open m n = refused_turn m n NoEnd
+finish_at Empty m n = refused_turn m n (Err NoEnd)
+finish_at Open m n = refused_turn m n (Err NoEnd)
 finish_at Closed m n = quiet m
 
 unfoldable pub finish_turn : Mender → ℕ → Turn
 finish_turn m count = finish_at m.stage m ((count + 1) % 2 ^ 64)
-
-abbrev pub closed_at : Stage → Bool
-closed_at Empty = false
-closed_at Open = false
-closed_at Closed = true
-
-abbrev pub open_at : Stage → Bool
-open_at Empty = false
-open_at Open = true
-open_at Closed = false
 
 -- no line's text is longer
 abbrev pub line_room : ℕ

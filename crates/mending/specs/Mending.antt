@@ -1,9 +1,8 @@
 -- THE MEANING OF A RECORDING: which of its lines are good, what is refused, and what is printed, by what was given so far (docs/RULES.md, 'Mending a recording').
-use Rattle.std.specs.Prelude.{ℕ, zero, suc, ◌+◌, ◌-◌, ◌*◌, ◌/◌, ◌%◌, Bool, true, false, cond, not, ◌&&◌, ◌||◌, List, [], ◌∷◌, ◌++◌, ℤ, pos, ◌==◌, int_le, int_lt, nat_le, nat_lt}
+use Rattle.std.specs.Prelude.{ℕ, zero, suc, ◌+◌, ◌-◌, ◌*◌, ◌/◌, ◌%◌, Bool, true, false, cond, not, ◌&&◌, ◌||◌, List, [], ◌∷◌, ◌++◌, ℤ, pos, ◌==◌, int_le, int_lt, nat_le, nat_lt, Err}
 use Rattle.arithmetic.specs.Whole.{up}
-use Rattle.vocabulary.specs.declared.refusal.Refusal.{Refusal}
 use Rattle.vocabulary.specs.declared.refusal.Refusal.TheVariants.{WrongMoment, BadPower, BadLine, NoEnd, NoFirstSample, HoleTooLong, SecondsOutOfOrder}
-use Rattle.vocabulary.specs.Refusals.{accepted}
+use Rattle.vocabulary.specs.Refusals.{Ruling, accepted}
 use Rattle.vocabulary.specs.Grounds.{Ground, on, only, first}
 use Rattle.vocabulary.specs.Sample.{power_in_range}
 use Rattle.vocabulary.specs.declared.header.Header.{Header}
@@ -132,7 +131,7 @@ grounds (these h rows) E.End = end_grounds (grid_of h) rows
 grounds (these h rows) E.Malformed = only BadLine
 grounds over entry = []
 
-abbrev pub ground : SoFar → Entry → Refusal
+abbrev pub ground : SoFar → Entry → Ruling
 ground so entry = first (grounds so entry)
 
 -- ---- what is printed
@@ -143,7 +142,7 @@ pub data Item : Type 0 where
   repeated : ℤ → Item
   filled : ℕ → Sample → Item
   kept : Sample → Item
-  refused : ℕ → Refusal → Item
+  refused : ℕ → Ruling → Item
 
 -- the samples missing from a place on, so many of them, each with the values of the last good one
 unfoldable pub filled_from : Grid → Sample → ℕ → ℕ → List Item
@@ -198,8 +197,8 @@ after so line = cond (accepted (ground so (entry_of line))) (with so (entry_of l
 
 -- 15 where line n is not there
 unfoldable pub ends : SoFar → ℕ → List Item
-ends nothing n = refused n NoEnd ∷ []
-ends (these h rows) n = refused n NoEnd ∷ []
+ends nothing n = refused n (Err NoEnd) ∷ []
+ends (these h rows) n = refused n (Err NoEnd) ∷ []
 ends over n = []
 
 -- all that is printed for a recording, in order; lines count from 1

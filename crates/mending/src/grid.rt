@@ -24,19 +24,17 @@ pub(crate) fn grid_of(header: Header) -> Grid
     ensures { result ≡ grid_of header }
 {
     let interval = interval_of(above_zero(header.interval));
-    let windows = interval.windows();
     Grid {
         interval,
-        places: above_zero(header.quarters) * windows.samples as u32,
+        places: above_zero(header.quarters) * interval.windows().samples as u32,
     }
 }
 
-// The place of a second.
+// The place of a second. Each divisor is a constant, by which a processor need not divide.
 pub(crate) fn place_of(grid: Grid, second: u32) -> u32
     ensures { result ≡ second / seconds_of grid }
 {
-    let interval = grid.interval;
-    match interval {
+    match grid.interval {
         Interval::One => second,
         Interval::Three => second / 3,
         Interval::Four => second / 4,
@@ -47,11 +45,11 @@ pub(crate) fn place_of(grid: Grid, second: u32) -> u32
 pub(crate) fn seconds_of(grid: Grid, places: u32) -> u64
     ensures { result ≡ places * seconds_of grid }
 {
-    let interval = grid.interval;
-    match interval {
-        Interval::One => places as u64,
-        Interval::Three => places as u64 * 3,
-        Interval::Four => places as u64 * 4,
+    let places = u64::from(places);
+    match grid.interval {
+        Interval::One => places,
+        Interval::Three => places * 3,
+        Interval::Four => places * 4,
     }
 }
 
@@ -64,18 +62,13 @@ pub(crate) fn is_outside(grid: Grid, second: i32) -> bool
     }
     let at = above_zero(second);
     let place = place_of(grid, at);
-    if grid.places <= place {
-        return true;
-    }
-    seconds_of(grid, place) != at as u64
+    grid.places <= place || seconds_of(grid, place) != u64::from(at)
 }
 
 // Whether more than 60 seconds in a row are missing from a place up to another.
 pub(crate) fn is_long(grid: Grid, from: u64, until: u32) -> bool
     ensures { result ≡ nat_lt 60 ((until - from) * seconds_of grid) }
 {
-    if until as u64 <= from {
-        return false;
-    }
-    LONGEST < seconds_of(grid, (until as u64 - from) as u32)
+    let until = u64::from(until);
+    from < until && LONGEST < seconds_of(grid, (until - from) as u32)
 }

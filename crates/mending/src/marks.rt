@@ -30,8 +30,8 @@ pub(crate) fn put_sample(buf: &mut [u8], at: usize, sample: Sample) -> usize
     ensures { WroteUpTo 44 buf.old at (sample_text sample) result buf.new }
 {
     let first = put(buf, at, b'S');
-    let second = put_signed(buf, first, sample.setpoint as i64);
-    let end = put_signed(buf, second, sample.actual as i64);
+    let second = put_signed(buf, first, i64::from(sample.setpoint));
+    let end = put_signed(buf, second, i64::from(sample.actual));
     put_line_end(buf, end)
 }
 
@@ -57,10 +57,8 @@ pub(crate) fn put_missing(
     ensures { WroteUpTo 4140 buf.old at (items_text (filled_from grid sample from (until - from))) result buf.new }
 {
     let mut next = at;
-    let mut place = from;
-    while place < until as u64 {
+    for place in from..u64::from(until) {
         next = put_filled(buf, next, grid, sample, place as u32);
-        place += 1;
     }
     next
 }

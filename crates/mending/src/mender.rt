@@ -4,12 +4,13 @@ ghost use Rattle.std.specs.Prelude.{◌≡◌, ◌-◌, ◌≤◌, true, not, �
 ghost use Rattle.reading.specs.Entry.{entry_of};
 ghost use Rattle.sheets.specs.Putting.{WroteUpTo};
 ghost use Rattle.vocabulary.specs.Refusals.{accepted};
-ghost use Rattle.mending.specs.declared.mender.Stage.TheVariants.{Closed};
+ghost use Rattle.vocabulary.specs.Stage.{closed_at, open_at};
+ghost use Rattle.vocabulary.specs.declared.stage.Stage.TheVariants.{Closed};
 ghost use Rattle.mending.specs.declared.mender.Sorted.TheVariants.{Good};
 ghost use Rattle.mending.specs.Mending.{items_text};
 ghost use Rattle.mending.specs.Mender.{Turns, empty_mender, opened_by, sorted_at, hole_refusal, sorted_refusal, row_refusal, end_refusal, row_items, rest_items};
 ghost use Rattle.mending.specs.Mender.{earlier_than, dropped_at, taken_at, with_row, refused_turn, open_turn, sorted_turn, row_turn};
-ghost use Rattle.mending.specs.Mender.{end_turn, first_turn, next_turn, line_turn, finish_turn, at_stage, open_at, closed_at};
+ghost use Rattle.mending.specs.Mender.{end_turn, first_turn, next_turn, line_turn, finish_turn, at_stage};
 
 use crate::grid::{Grid, grid_of, is_long, is_outside, place_of};
 use crate::marks::{put_mark, put_missing, put_sample};
@@ -22,21 +23,7 @@ use vocabulary::interval::Interval;
 use vocabulary::recorded::Recorded;
 use vocabulary::refusal::Refusal;
 use vocabulary::sample::{Sample, in_range};
-
-// Before the header; while lines are taken; after the end or a refusal, when nothing is read any more.
-#[derive(Clone, Copy)]
-pub enum Stage {
-    Empty,
-    Open,
-    Closed,
-}
-
-// The second of the line just before, where there was one.
-#[derive(Clone, Copy)]
-pub enum Before {
-    Nothing,
-    Second(i32),
-}
+use vocabulary::stage::Stage;
 
 #[derive(Clone, Copy)]
 pub struct Mender {
@@ -44,7 +31,7 @@ pub struct Mender {
     grid: Grid,
     next: u64,
     last: Sample,
-    before: Before,
+    before: Option<i32>,
 }
 
 // What a second makes of a line: O, T, or good, with its place.
@@ -66,19 +53,14 @@ pub struct Told {
 fn lacks_start(next: u64, place: u32) -> bool
     ensures { result ≡ (next == 0 && not (place == 0)) }
 {
-    if next != 0 {
-        return false;
-    }
-    place != 0
+    next == 0 && place != 0
 }
 
-fn is_earlier(second: i32, before: Before) -> bool
+// Whether a second is smaller than that of the line just before, if there was one.
+fn is_earlier(second: i32, before: Option<i32>) -> bool
     ensures { result ≡ earlier_than before second }
 {
-    match before {
-        Before::Nothing => false,
-        Before::Second(last) => second < last,
-    }
+    before.is_some_and(|last| second < last)
 }
 
 impl Mender {
@@ -97,7 +79,7 @@ impl Mender {
                 setpoint: 0,
                 actual: 0,
             },
-            before: Before::Nothing,
+            before: None,
         }
     }
 
@@ -105,96 +87,74 @@ impl Mender {
     pub fn is_closed(self) -> bool
         ensures { result ≡ closed_at self.stage }
     {
-        let stage = self.stage;
-        match stage {
-            Stage::Empty => false,
-            Stage::Open => false,
-            Stage::Closed => true,
-        }
+        self.stage.is_closed()
     }
 
     // Whether lines are taken.
     pub fn is_open(self) -> bool
         ensures { result ≡ open_at self.stage }
     {
-        let stage = self.stage;
-        match stage {
-            Stage::Empty => false,
-            Stage::Open => true,
-            Stage::Closed => false,
-        }
+        self.stage.is_open()
     }
 
     fn sorted(self, second: i32) -> Sorted
         ensures { result ≡ sorted_at self second }
     {
-        let grid = self.grid;
-        if is_outside(grid, second) {
+        if is_outside(self.grid, second) {
             return Sorted::Stray;
         }
-        let place = place_of(grid, above_zero(second));
-        if (place as u64) < self.next {
+        let place = place_of(self.grid, above_zero(second));
+        if u64::from(place) < self.next {
             return Sorted::Repeated;
         }
         Sorted::Good(place)
     }
 
     // What is missing before a good line: 19, 20.
-    fn hole_refusal(self, place: u32) -> Refusal
+    fn hole_refusal(self, place: u32) -> Result<(), Refusal>
         ensures { result ≡ hole_refusal self place }
     {
         if lacks_start(self.next, place) {
-            return Refusal::NoFirstSample;
+            return Err(Refusal::NoFirstSample);
         }
-        let grid = self.grid;
-        if is_long(grid, self.next, place) {
-            return Refusal::HoleTooLong;
+        if is_long(self.grid, self.next, place) {
+            return Err(Refusal::HoleTooLong);
         }
-        Refusal::None
+        Ok(())
     }
 
-    fn sorted_refusal(self, sorted: Sorted) -> Refusal
+    fn sorted_refusal(self, sorted: Sorted) -> Result<(), Refusal>
         ensures { result ≡ sorted_refusal self sorted }
     {
         match sorted {
-            Sorted::Stray => Refusal::None,
-            Sorted::Repeated => Refusal::None,
+            Sorted::Stray | Sorted::Repeated => Ok(()),
             Sorted::Good(place) => self.hole_refusal(place),
         }
     }
 
-    fn row_refusal(self, sorted: Sorted, row: Recorded) -> Refusal
+    fn row_refusal(self, sorted: Sorted, row: Recorded) -> Result<(), Refusal>
         ensures { result ≡ row_refusal self sorted row }
     {
-        let sample = row.sample;
-        if !in_range(sample.setpoint) {
-            return Refusal::BadPower;
+        if !in_range(row.sample.setpoint) || !in_range(row.sample.actual) {
+            return Err(Refusal::BadPower);
         }
-        if !in_range(sample.actual) {
-            return Refusal::BadPower;
+        self.sorted_refusal(sorted)?;
+        if is_earlier(row.second, self.before) {
+            return Err(Refusal::SecondsOutOfOrder);
         }
-        let refusal = self.sorted_refusal(sorted);
-        if refusal.number() != 0 {
-            return refusal;
-        }
-        let before = self.before;
-        if is_earlier(row.second, before) {
-            return Refusal::SecondsOutOfOrder;
-        }
-        Refusal::None
+        Ok(())
     }
 
-    fn end_refusal(self) -> Refusal
+    fn end_refusal(self) -> Result<(), Refusal>
         ensures { result ≡ end_refusal self }
     {
         if self.next == 0 {
-            return Refusal::NoFirstSample;
+            return Err(Refusal::NoFirstSample);
         }
-        let grid = self.grid;
-        if is_long(grid, self.next, grid.places) {
-            return Refusal::HoleTooLong;
+        if is_long(self.grid, self.next, self.grid.places) {
+            return Err(Refusal::HoleTooLong);
         }
-        Refusal::None
+        Ok(())
     }
 
     // What is missing up to a place, of which a hole that is not too long comes to at most 60 samples.
@@ -202,9 +162,7 @@ impl Mender {
         requires { place - self.next ≤ 60 }
         ensures { WroteUpTo 4140 out.old at (items_text (rest_items self place)) result out.new }
     {
-        let grid = self.grid;
-        let last = self.last;
-        put_missing(out, at, grid, last, self.next, place)
+        put_missing(out, at, self.grid, self.last, self.next, place)
     }
 
     fn put_good(self, place: u32, row: Recorded, out: &mut [u8], at: usize) -> usize
@@ -212,8 +170,7 @@ impl Mender {
         ensures { WroteUpTo 4184 out.old at (items_text (row_items self (Good place) row)) result out.new }
     {
         let own = self.put_rest(place, out, at);
-        let sample = row.sample;
-        put_sample(out, own, sample)
+        put_sample(out, own, row.sample)
     }
 
     // What a line that is not refused makes the mender print: nothing longer is missing before it.
@@ -222,8 +179,8 @@ impl Mender {
         ensures { WroteUpTo 4184 out.old at (items_text (row_items self sorted row)) result out.new }
     {
         match sorted {
-            Sorted::Stray => put_mark(out, at, row.second as i64, b'O'),
-            Sorted::Repeated => put_mark(out, at, row.second as i64, b'T'),
+            Sorted::Stray => put_mark(out, at, i64::from(row.second), b'O'),
+            Sorted::Repeated => put_mark(out, at, i64::from(row.second), b'T'),
             Sorted::Good(place) => self.put_good(place, row, out, at),
         }
     }
@@ -232,30 +189,20 @@ impl Mender {
     fn dropped(self, second: i32) -> Mender
         ensures { result ≡ dropped_at self second }
     {
-        let stage = self.stage;
-        let grid = self.grid;
-        let last = self.last;
         Mender {
-            stage,
-            grid,
-            next: self.next,
-            last,
-            before: Before::Second(second),
+            before: Some(second),
+            ..self
         }
     }
 
     fn taken(self, place: u32, row: Recorded) -> Mender
         ensures { result ≡ taken_at self place row }
     {
-        let stage = self.stage;
-        let grid = self.grid;
-        let last = row.sample;
         Mender {
-            stage,
-            grid,
-            next: place as u64 + 1,
-            last,
-            before: Before::Second(row.second),
+            next: u64::from(place) + 1,
+            last: row.sample,
+            before: Some(row.second),
+            ..self
         }
     }
 
@@ -263,8 +210,7 @@ impl Mender {
         ensures { result ≡ with_row self sorted row }
     {
         match sorted {
-            Sorted::Stray => self.dropped(row.second),
-            Sorted::Repeated => self.dropped(row.second),
+            Sorted::Stray | Sorted::Repeated => self.dropped(row.second),
             Sorted::Good(place) => self.taken(place, row),
         }
     }
@@ -272,37 +218,27 @@ impl Mender {
     fn closed(self) -> Mender
         ensures { result ≡ at_stage Closed self }
     {
-        let grid = self.grid;
-        let last = self.last;
-        let before = self.before;
         Mender {
             stage: Stage::Closed,
-            grid,
-            next: self.next,
-            last,
-            before,
+            ..self
         }
     }
 
     fn opened(self, grid: Grid) -> Mender
         ensures { result ≡ opened_by self grid }
     {
-        let last = self.last;
-        let before = self.before;
         Mender {
             stage: Stage::Open,
             grid,
-            next: self.next,
-            last,
-            before,
+            ..self
         }
     }
 
     // A refusal: its line is printed, and nothing is read any more.
     fn refused(self, number: u64, refusal: Refusal, out: &mut [u8], at: usize) -> Told
-        ensures { Turns out.old at (refused_turn self number refusal) result out.new }
+        ensures { Turns out.old at (refused_turn self number (Err refusal)) result out.new }
     {
-        let next = put_refusal(out, at, number, refusal);
+        let next = put_refusal(out, at, number, Err(refusal));
         Told {
             mender: self.closed(),
             next,
@@ -313,14 +249,12 @@ impl Mender {
     fn open(self, number: u64, header: Header, out: &mut [u8], at: usize) -> Told
         ensures { Turns out.old at (open_turn self number header) result out.new }
     {
-        let refusal = open_refusal(header);
-        if refusal.number() != 0 {
-            return self.refused(number, refusal, out, at);
-        }
-        let grid = grid_of(header);
-        Told {
-            mender: self.opened(grid),
-            next: at,
+        match open_refusal(header) {
+            Ok(()) => Told {
+                mender: self.opened(grid_of(header)),
+                next: at,
+            },
+            Err(refusal) => self.refused(number, refusal, out, at),
         }
     }
 
@@ -335,14 +269,12 @@ impl Mender {
     ) -> Told
         ensures { Turns out.old at (sorted_turn self number sorted row) result out.new }
     {
-        let refusal = self.row_refusal(sorted, row);
-        if refusal.number() != 0 {
-            return self.refused(number, refusal, out, at);
-        }
-        let next = self.put_sorted(sorted, row, out, at);
-        Told {
-            mender: self.with_row(sorted, row),
-            next,
+        match self.row_refusal(sorted, row) {
+            Ok(()) => Told {
+                mender: self.with_row(sorted, row),
+                next: self.put_sorted(sorted, row, out, at),
+            },
+            Err(refusal) => self.refused(number, refusal, out, at),
         }
     }
 
@@ -357,15 +289,12 @@ impl Mender {
     fn end(self, number: u64, out: &mut [u8], at: usize) -> Told
         ensures { Turns out.old at (end_turn self number) result out.new }
     {
-        let refusal = self.end_refusal();
-        if refusal.number() != 0 {
-            return self.refused(number, refusal, out, at);
-        }
-        let grid = self.grid;
-        let next = self.put_rest(grid.places, out, at);
-        Told {
-            mender: self.closed(),
-            next,
+        match self.end_refusal() {
+            Ok(()) => Told {
+                mender: self.closed(),
+                next: self.put_rest(self.grid.places, out, at),
+            },
+            Err(refusal) => self.refused(number, refusal, out, at),
         }
     }
 
@@ -375,8 +304,7 @@ impl Mender {
     {
         match entry {
             Entry::Header(header) => self.open(number, header, out, at),
-            Entry::Recorded(_) => self.refused(number, Refusal::WrongMoment, out, at),
-            Entry::End => self.refused(number, Refusal::WrongMoment, out, at),
+            Entry::Recorded(_) | Entry::End => self.refused(number, Refusal::WrongMoment, out, at),
             Entry::Malformed => self.refused(number, Refusal::BadLine, out, at),
         }
     }
@@ -396,9 +324,8 @@ impl Mender {
     pub fn line(self, number: u64, line: &[u8], out: &mut [u8], at: usize) -> Told
         ensures { Turns out.old at (line_turn self number line.now) result out.new }
     {
-        let stage = self.stage;
         let entry = read_entry(line);
-        match stage {
+        match self.stage {
             Stage::Empty => self.first(number, entry, out, at),
             Stage::Open => self.further(number, entry, out, at),
             Stage::Closed => Told {
@@ -418,7 +345,6 @@ impl Mender {
                 next: at,
             };
         }
-        let number = std::num::wrapping_add_u64(count, 1);
-        self.refused(number, Refusal::NoEnd, out, at)
+        self.refused(count.wrapping_add(1), Refusal::NoEnd, out, at)
     }
 }

@@ -7,8 +7,7 @@ use mathlib.Core.List.{List, [], ◌∷◌, ◌++◌, append-nil}
 use native.Mathlib.Omega.{arith}
 use native.Mathlib.Nat.{add-zero}
 use lib.ListN.{length}
-use Rattle.vocabulary.specs.declared.refusal.Refusal.{Refusal}
-use Rattle.vocabulary.specs.Refusals.{accepted}
+use Rattle.vocabulary.specs.Refusals.{Ruling, accepted}
 use Rattle.vocabulary.specs.declared.contract.Contract.{Contract}
 use Rattle.vocabulary.proofs.GroundLaws.{only-first}
 use Rattle.series.specs.Scan.{each}
@@ -125,7 +124,7 @@ ending-mirrored input = ended_so (rw (← lines-mirrored input) at (ends-mirrore
 
 -- ---- an input that is refused or stops short ends so
 
-pub refused-ends : {input : List ℕ} {so : SoFar} {n : ℕ} {refusal : Refusal} → RefusedInput input so n refusal → ending_of input ≡ refused_at so n refusal
+pub refused-ends : {input : List ℕ} {so : SoFar} {n : ℕ} {refusal : Ruling} → RefusedInput input so n refusal → ending_of input ≡ refused_at so n refusal
 unfolding ending_of
 refused-ends {input} {so} {n} {refusal} r =
     let is : refusal ≡ ground so (identifier_of r.line) (line_of r.line) = only-first r.first in

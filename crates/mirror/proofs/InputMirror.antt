@@ -15,8 +15,9 @@ use Rattle.lines.proofs.LineLaws as W
 use Rattle.lines.proofs.LineLaws.{NoLf, Written, read_back, written}
 use Rattle.reading.specs.Line.{line_of}
 use Rattle.meaning.specs.Endings.{Each, of_none, of_more}
+use Rattle.join.proofs.NumberBack.{each_both}
 use Rattle.mirror.specs.Bytes.{parted, mirror_bytes, ended, mirror_input}
-use Rattle.mirror.proofs.Parted.{NoTab, each_append, each-tabbed, each-fields}
+use Rattle.mirror.proofs.Parted.{NoTab, each-tabbed, each-fields}
 use Rattle.mirror.proofs.LineMirror.{each-mirrored, line-twice}
 
 -- ---- a line with no LF in it has none in the mirror
@@ -44,7 +45,7 @@ tab e = omega arith
 
 parted-other : {fs : List (List ℕ)} → Each (Each Other) fs → Each Other (parted fs)
 parted-other of_none = of_none
-parted-other (of_more p ps) = each_append p (each-tabbed tab ps)
+parted-other (of_more p ps) = each_both p (each-tabbed tab ps)
 
 line-no-lf : {line : List ℕ} → NoLf line → NoLf (mirror_bytes line)
 unfolding mirror_bytes

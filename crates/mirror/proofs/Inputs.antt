@@ -7,7 +7,8 @@ use lib.ListN.{length}
 use Rattle.vocabulary.specs.Direction.{mirror_of}
 use Rattle.vocabulary.specs.declared.direction.Direction.{Direction}
 use Rattle.vocabulary.specs.declared.direction.Direction.TheVariants.{Positive, Negative}
-use Rattle.vocabulary.specs.declared.refusal.Refusal.{Refusal}
+use Rattle.std.specs.Prelude.{Err}
+use Rattle.vocabulary.specs.Refusals.{Ruling}
 use Rattle.vocabulary.specs.declared.refusal.Refusal.TheVariants.{NoEnd}
 use Rattle.series.proofs.Scanned.{each-length}
 use Rattle.sheets.specs.Sheet.{refusal_text}
@@ -73,7 +74,7 @@ mirror-accepted input g a =
     }
 
 -- of a refused one
-pub mirror-refused : (input : List ℕ) (so : SoFar) (n : ℕ) (refusal : Refusal) → RefusedInput input so n refusal → MirrorRefused input so n refusal
+pub mirror-refused : (input : List ℕ) (so : SoFar) (n : ℕ) (refusal : Ruling) → RefusedInput input so n refusal → MirrorRefused input so n refusal
 mirror-refused input so n refusal r =
     let m = refused-input (mirror_input input) (mirror_so so) n refusal (ending-mirrored input ∙ ap mirror_ending (refused-ends r)) in
     record { refused = m; text = m.text ∙ ap (λ (l : List ℕ). l ++ refusal_text n refusal) (printed-mirrored so) }
@@ -82,7 +83,7 @@ mirror-refused input so n refusal r =
 pub mirror-short : (input : List ℕ) (so : SoFar) (n : ℕ) → ShortInput input so n → MirrorShort input so n
 mirror-short input so n s =
     let m = short-input (mirror_input input) (mirror_so so) n (ending-mirrored input ∙ ap mirror_ending (short-ends s)) in
-    record { short = m; text = m.text ∙ ap (λ (l : List ℕ). l ++ refusal_text n NoEnd) (printed-mirrored so) }
+    record { short = m; text = m.text ∙ ap (λ (l : List ℕ). l ++ refusal_text n (Err NoEnd)) (printed-mirrored so) }
 
 -- and the other way round: an input whose mirror is accepted is accepted
 pub accepted-back : (input : List ℕ) (g : Given) → AcceptedInput (mirror_input input) g → AcceptedInput input (mirror_given g)

@@ -9,7 +9,7 @@ use borrow.Author.Tests.{ltb-false, le-ltb, eqb-true}
 use lib.Dec.{ltb, eqb}
 use lib.IntN.{ℤ, neg_ℤ}
 use lib.ListN.{length, length-append}
-use Rattle.arithmetic.proofs.Booleans.{both}
+use Rattle.arithmetic.proofs.Booleans.{true-false, both}
 use Rattle.vocabulary.specs.Direction.{mirror_of}
 use Rattle.vocabulary.specs.declared.direction.Direction.{Direction}
 use Rattle.vocabulary.specs.declared.direction.Direction.TheVariants.{Positive, Negative}
@@ -17,23 +17,17 @@ use Rattle.vocabulary.specs.declared.contract.Contract.{Contract}
 use Rattle.print.specs.Fields.{tabbed}
 use Rattle.sheets.specs.Sheet.{letter_of}
 use Rattle.fields.specs.Fields.{fields, field_at}
-use Rattle.fields.specs.Numbers.{long_number_of, shortened, number_of}
+use Rattle.std.specs.Prelude.{Option, Some, None}
+use Rattle.std.proofs.lemmas.Option.{none-some, same_Some}
+use Rattle.arithmetic.specs.declared.date.Date.{Date}
+use Rattle.vocabulary.specs.declared.header.Lot.{Lot}
+use Rattle.fields.specs.Numbers.{long_number_of, number_of}
 use Rattle.fields.specs.Day.{day_of}
-use Rattle.fields.specs.declared.number.LongNumber.{LongNumber}
-use Rattle.fields.specs.declared.number.LongNumber.TheVariants as Long
-use Rattle.fields.specs.declared.number.Number.{Number}
-use Rattle.fields.specs.declared.number.Number.TheVariants as N
-use Rattle.fields.specs.declared.day.Day.{Day}
-use Rattle.fields.specs.declared.day.Day.TheVariants as D
 use Rattle.fields.proofs.FieldLaws.{numbered, counted}
 use Rattle.reading.specs.Line.{is_letter, kind_of, direction_of, lot_of, header_fields, bounds_fields, setpoint_fields, contract_fields, sample_fields, of_fields}
 use Rattle.reading.specs.Line.{header_of, bounds_of, setpoint_of, identifier_of, contract_of, sample_of, end_of, by_kind, line_of}
-use Rattle.reading.specs.declared.LotField.{LotField}
-use Rattle.reading.specs.declared.LotField.TheVariants as LF
 use Rattle.reading.specs.declared.Kind.{Kind}
 use Rattle.reading.specs.declared.Kind.TheVariants as K
-use Rattle.reading.specs.declared.DirectionField.{DirectionField}
-use Rattle.reading.specs.declared.DirectionField.TheVariants as DF
 use Rattle.reading.specs.declared.Line.{Line}
 use Rattle.reading.specs.declared.Line.TheVariants as L
 use Rattle.meaning.specs.Endings.{Each, of_none, of_more}
@@ -46,12 +40,12 @@ use Rattle.mirror.proofs.Parted.{NoTab, each-field, parted-fields, fields_back, 
 
 data Said : List (List ℕ) → Line → Type 0 where
   stays : {fs : List (List ℕ)} {l : Line} → mirror_line l ≡ l → ((gs : List (List ℕ)) → mirror_fields l gs ≡ gs) → Said fs l
-  bounds : {k a b : List ℕ} {oga uga : ℤ} → kind_of k ≡ K.Bounds → long_number_of 11 a ≡ Long.Value oga → long_number_of 11 b ≡ Long.Value uga
+  bounds : {k a b : List ℕ} {oga uga : ℤ} → kind_of k ≡ K.Bounds → long_number_of 11 a ≡ Some oga → long_number_of 11 b ≡ Some uga
       → Said (k ∷ a ∷ b ∷ []) (L.Bounds (record { oga = record { 0 = oga }; uga = record { 0 = uga } }))
-  setpoint : {k a : List ℕ} {s : ℤ} → kind_of k ≡ K.Setpoint → long_number_of 9 a ≡ Long.Value s → Said (k ∷ a ∷ []) (L.Setpoint s)
-  contract : {k d i a p : List ℕ} {c : Contract} → kind_of k ≡ K.Contract → direction_of d ≡ DF.Of c.direction → number_of a ≡ N.Value c.award → number_of p ≡ N.Value c.price
+  setpoint : {k a : List ℕ} {s : ℤ} → kind_of k ≡ K.Setpoint → long_number_of 9 a ≡ Some s → Said (k ∷ a ∷ []) (L.Setpoint s)
+  contract : {k d i a p : List ℕ} {c : Contract} → kind_of k ≡ K.Contract → direction_of d ≡ Some c.direction → number_of a ≡ Some c.award → number_of p ≡ Some c.price
       → Said (k ∷ d ∷ i ∷ a ∷ p ∷ []) (L.Contract c)
-  sample : {k a b : List ℕ} {s t : ℤ} → kind_of k ≡ K.Sample → long_number_of 9 a ≡ Long.Value s → long_number_of 9 b ≡ Long.Value t
+  sample : {k a b : List ℕ} {s t : ℤ} → kind_of k ≡ K.Sample → long_number_of 9 a ≡ Some s → long_number_of 9 b ≡ Some t
       → Said (k ∷ a ∷ b ∷ []) (L.Sample (record { setpoint = s; actual = t }))
 
 malformed : {fs : List (List ℕ)} → Said fs L.Malformed
@@ -66,34 +60,34 @@ of-count n fs l said = go (eqb (length fs) n) refl
     go false e = malformed
 
 -- each kind, by what its fields say
-header-said : {fs : List (List ℕ)} (day : Day) (i : Number) (lot : LotField) (q : Number) → Said fs (header_fields day i lot q)
-header-said (D.Of date) (N.Value i) (LF.Of lot) (N.Value q) = stays refl (λ gs. refl)
-header-said (D.Of date) (N.Value i) (LF.Of lot) N.Malformed = malformed
-header-said (D.Of date) (N.Value i) LF.Malformed q = malformed
-header-said (D.Of date) N.Malformed lot q = malformed
-header-said D.Malformed i lot q = malformed
+header-said : {fs : List (List ℕ)} (day : Option Date) (i : Option ℤ) (lot : Option Lot) (q : Option ℤ) → Said fs (header_fields day i lot q)
+header-said (Some date) (Some i) (Some lot) (Some q) = stays refl (λ gs. refl)
+header-said (Some date) (Some i) (Some lot) None = malformed
+header-said (Some date) (Some i) None q = malformed
+header-said (Some date) None lot q = malformed
+header-said None i lot q = malformed
 
-bounds-said : (k a b : List ℕ) (x y : LongNumber) → kind_of k ≡ K.Bounds → long_number_of 11 a ≡ x → long_number_of 11 b ≡ y → Said (k ∷ a ∷ b ∷ []) (bounds_fields x y)
-bounds-said k a b (Long.Value x) (Long.Value y) e p q = bounds e p q
-bounds-said k a b (Long.Value x) Long.Malformed e p q = malformed
-bounds-said k a b Long.Malformed y e p q = malformed
+bounds-said : (k a b : List ℕ) (x y : Option ℤ) → kind_of k ≡ K.Bounds → long_number_of 11 a ≡ x → long_number_of 11 b ≡ y → Said (k ∷ a ∷ b ∷ []) (bounds_fields x y)
+bounds-said k a b (Some x) (Some y) e p q = bounds e p q
+bounds-said k a b (Some x) None e p q = malformed
+bounds-said k a b None y e p q = malformed
 
-setpoint-said : (k a : List ℕ) (x : LongNumber) → kind_of k ≡ K.Setpoint → long_number_of 9 a ≡ x → Said (k ∷ a ∷ []) (setpoint_fields (shortened x))
-setpoint-said k a (Long.Value x) e p = setpoint e p
-setpoint-said k a Long.Malformed e p = malformed
+setpoint-said : (k a : List ℕ) (x : Option ℤ) → kind_of k ≡ K.Setpoint → long_number_of 9 a ≡ x → Said (k ∷ a ∷ []) (setpoint_fields x)
+setpoint-said k a (Some x) e p = setpoint e p
+setpoint-said k a None e p = malformed
 
-contract-said : (k d i a p : List ℕ) (x : DirectionField) (y z : Number) → kind_of k ≡ K.Contract → direction_of d ≡ x → number_of a ≡ y → number_of p ≡ z
+contract-said : (k d i a p : List ℕ) (x : Option Direction) (y z : Option ℤ) → kind_of k ≡ K.Contract → direction_of d ≡ x → number_of a ≡ y → number_of p ≡ z
     → Said (k ∷ d ∷ i ∷ a ∷ p ∷ []) (contract_fields x y z)
-contract-said k d i a p (DF.Of x) (N.Value y) (N.Value z) e f g h = contract e f g h
-contract-said k d i a p (DF.Of x) (N.Value y) N.Malformed e f g h = malformed
-contract-said k d i a p (DF.Of x) N.Malformed z e f g h = malformed
-contract-said k d i a p DF.Malformed y z e f g h = malformed
+contract-said k d i a p (Some x) (Some y) (Some z) e f g h = contract e f g h
+contract-said k d i a p (Some x) (Some y) None e f g h = malformed
+contract-said k d i a p (Some x) None z e f g h = malformed
+contract-said k d i a p None y z e f g h = malformed
 
-sample-said : (k a b : List ℕ) (x y : LongNumber) → kind_of k ≡ K.Sample → long_number_of 9 a ≡ x → long_number_of 9 b ≡ y
-    → Said (k ∷ a ∷ b ∷ []) (sample_fields (shortened x) (shortened y))
-sample-said k a b (Long.Value x) (Long.Value y) e p q = sample e p q
-sample-said k a b (Long.Value x) Long.Malformed e p q = malformed
-sample-said k a b Long.Malformed y e p q = malformed
+sample-said : (k a b : List ℕ) (x y : Option ℤ) → kind_of k ≡ K.Sample → long_number_of 9 a ≡ x → long_number_of 9 b ≡ y
+    → Said (k ∷ a ∷ b ∷ []) (sample_fields x y)
+sample-said k a b (Some x) (Some y) e p q = sample e p q
+sample-said k a b (Some x) None e p q = malformed
+sample-said k a b None y e p q = malformed
 
 said-kind : (fs : List (List ℕ)) (kind : Kind) → kind_of (field_at 0 fs) ≡ kind → Said fs (by_kind kind fs)
 unfolding header_of bounds_of setpoint_of contract_of sample_of end_of number_of
@@ -129,21 +123,21 @@ one-letter k {kind} e n = go (eqb (length k) 1) refl
 
 letter : (f : List ℕ) (x : ℕ) → is_letter x f ≡ true → f ≡ x ∷ []
 unfolding is_letter
-letter [] x e = absurd (let z : ◌≡◌ {A = ℕ} 0 1 = cc in (omega arith))
+letter [] x e = true-false e refl
 letter (y ∷ []) x e = ap (λ (z : ℕ). z ∷ []) (eqb-true y x e)
 letter (y ∷ (z ∷ zs)) x e = absurd (omega (arith, eqb-true (suc (suc (length zs))) 1 (both (eqb (suc (suc (length zs))) 1) (eqb y x) e).0))
 
 -- a direction has the letter that it is printed with
-direction-letter : (d : List ℕ) (x : Direction) → direction_of d ≡ DF.Of x → d ≡ letter_of x ∷ []
+direction-letter : (d : List ℕ) (x : Direction) → direction_of d ≡ Some x → d ≡ letter_of x ∷ []
 unfolding direction_of
 direction-letter d x e = go (is_letter 80 d) (is_letter 78 d) refl refl e
   where
-    go : (a b : Bool) → is_letter 80 d ≡ a → is_letter 78 d ≡ b → cond a (DF.Of Positive) (cond b (DF.Of Negative) DF.Malformed) ≡ DF.Of x → d ≡ letter_of x ∷ []
-    go true b p q e = let same : Positive ≡ x = cc in rw (← same) (letter d 80 p)
-    go false true p q e = let same : Negative ≡ x = cc in rw (← same) (letter d 78 q)
-    go false false p q e = absurd (let z : ◌≡◌ {A = ℕ} 0 1 = cc in (omega arith))
+    go : (a b : Bool) → is_letter 80 d ≡ a → is_letter 78 d ≡ b → cond a (Some Positive) (cond b (Some Negative) None) ≡ Some x → d ≡ letter_of x ∷ []
+    go true b p q e = rw (← same_Some Positive x e) (letter d 80 p)
+    go false true p q e = rw (← same_Some Negative x e) (letter d 78 q)
+    go false false p q e = absurd (none-some x e)
 
-letter-direction : (x : Direction) → direction_of (letter_of x ∷ []) ≡ DF.Of x
+letter-direction : (x : Direction) → direction_of (letter_of x ∷ []) ≡ Some x
 unfolding direction_of is_letter
 letter-direction Positive = refl
 letter-direction Negative = refl
@@ -160,7 +154,7 @@ unfolding line_of
 contract-short line c e = ltb-false 80 (length line) (go (ltb 80 (length line)) _ e)
   where
     go : (t : Bool) (l : Line) → cond t L.Malformed l ≡ L.Contract c → t ≡ false
-    go true l e = absurd (let z : ◌≡◌ {A = ℕ} 0 1 = cc in (omega arith))
+    go true l e = absurd cc
     go false l e = refl
 
 -- ---- a letter and one or two numbers are short enough
@@ -176,40 +170,40 @@ numbers-short : (k : List ℕ) {fs : List (List ℕ)} → length k ≡ 1 → Eac
 numbers-short k {fs} one few two = omega (arith, length-append k (tabbed fs), tabbed-few few)
 
 -- the mirror of a number of at most 11 digits
-few-mirrored : (most : ℕ) (f : List ℕ) (z : ℤ) → most ≤ 11 → long_number_of most f ≡ Long.Value z → Few (mirror_number f)
+few-mirrored : (most : ℕ) (f : List ℕ) (z : ℤ) → most ≤ 11 → long_number_of most f ≡ Some z → Few (mirror_number f)
 few-mirrored most f z m e = omega (arith, number_short most (mirror_number f) (neg_ℤ z) (number-mirrored most f z e))
 
 -- ---- THE KINDS THAT THE MIRROR CHANGES
 
-bounds-mirrored : (k a b : List ℕ) (oga uga : ℤ) → kind_of k ≡ K.Bounds → long_number_of 11 a ≡ Long.Value oga → long_number_of 11 b ≡ Long.Value uga
+bounds-mirrored : (k a b : List ℕ) (oga uga : ℤ) → kind_of k ≡ K.Bounds → long_number_of 11 a ≡ Some oga → long_number_of 11 b ≡ Some uga
     → Each (Each NoTab) (k ∷ mirror_number b ∷ mirror_number a ∷ [])
     → line_of (parted (k ∷ mirror_number b ∷ mirror_number a ∷ [])) ≡ L.Bounds (record { oga = record { 0 = neg_ℤ uga }; uga = record { 0 = neg_ℤ oga } })
 unfolding field_at bounds_of
 bounds-mirrored k a b oga uga e p q free =
-    let one = one-letter k e (λ n. (let z : ◌≡◌ {A = ℕ} 0 1 = cc in omega arith)) in
+    let one = one-letter k e (λ n. cc) in
     let few : Each Few (mirror_number b ∷ mirror_number a ∷ []) = of_more (few-mirrored 11 b uga (omega arith) q) (of_more (few-mirrored 11 a oga (omega arith) p) of_none) in
     read_by (k ∷ mirror_number b ∷ mirror_number a ∷ []) (omega arith) free (numbers-short k one few (omega arith))
     ∙ rw (e, number-mirrored 11 b uga q, number-mirrored 11 a oga p)
 
-setpoint-mirrored : (k a : List ℕ) (s : ℤ) → kind_of k ≡ K.Setpoint → long_number_of 9 a ≡ Long.Value s
+setpoint-mirrored : (k a : List ℕ) (s : ℤ) → kind_of k ≡ K.Setpoint → long_number_of 9 a ≡ Some s
     → Each (Each NoTab) (k ∷ mirror_number a ∷ []) → line_of (parted (k ∷ mirror_number a ∷ [])) ≡ L.Setpoint (neg_ℤ s)
 unfolding field_at setpoint_of number_of
 setpoint-mirrored k a s e p free =
-    let one = one-letter k e (λ n. (let z : ◌≡◌ {A = ℕ} 0 1 = cc in omega arith)) in
+    let one = one-letter k e (λ n. cc) in
     let few : Each Few (mirror_number a ∷ []) = of_more (few-mirrored 9 a s (omega arith) p) of_none in
     read_by (k ∷ mirror_number a ∷ []) (omega arith) free (numbers-short k one few (omega arith)) ∙ rw (e, number-mirrored 9 a s p)
 
-sample-mirrored : (k a b : List ℕ) (s t : ℤ) → kind_of k ≡ K.Sample → long_number_of 9 a ≡ Long.Value s → long_number_of 9 b ≡ Long.Value t
+sample-mirrored : (k a b : List ℕ) (s t : ℤ) → kind_of k ≡ K.Sample → long_number_of 9 a ≡ Some s → long_number_of 9 b ≡ Some t
     → Each (Each NoTab) (k ∷ mirror_number a ∷ mirror_number b ∷ [])
     → line_of (parted (k ∷ mirror_number a ∷ mirror_number b ∷ [])) ≡ L.Sample (record { setpoint = neg_ℤ s; actual = neg_ℤ t })
 unfolding field_at sample_of number_of
 sample-mirrored k a b s t e p q free =
-    let one = one-letter k e (λ n. (let z : ◌≡◌ {A = ℕ} 0 1 = cc in omega arith)) in
+    let one = one-letter k e (λ n. cc) in
     let few : Each Few (mirror_number a ∷ mirror_number b ∷ []) = of_more (few-mirrored 9 a s (omega arith) p) (of_more (few-mirrored 9 b t (omega arith) q) of_none) in
     read_by (k ∷ mirror_number a ∷ mirror_number b ∷ []) (omega arith) free (numbers-short k one few (omega arith))
     ∙ rw (e, number-mirrored 9 a s p, number-mirrored 9 b t q)
 
-contract-mirrored : (k d i a p : List ℕ) (c : Contract) → kind_of k ≡ K.Contract → direction_of d ≡ DF.Of c.direction → number_of a ≡ N.Value c.award → number_of p ≡ N.Value c.price
+contract-mirrored : (k d i a p : List ℕ) (c : Contract) → kind_of k ≡ K.Contract → direction_of d ≡ Some c.direction → number_of a ≡ Some c.award → number_of p ≡ Some c.price
     → length (parted (k ∷ d ∷ i ∷ a ∷ p ∷ [])) ≤ 80 → Each (Each NoTab) (k ∷ (letter_of (mirror_of c.direction) ∷ []) ∷ i ∷ a ∷ p ∷ [])
     → line_of (parted (k ∷ (letter_of (mirror_of c.direction) ∷ []) ∷ i ∷ a ∷ p ∷ [])) ≡ L.Contract (mirror_contract c)
 unfolding field_at contract_of

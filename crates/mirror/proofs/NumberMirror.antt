@@ -11,34 +11,30 @@ use lib.Dec.{ltb, leb, eqb}
 use lib.IntN.{ℤ, pos, negsuc, neg_ℤ}
 use lib.ListN.{length}
 use Rattle.arithmetic.proofs.Booleans.{true-false, both}
+use Rattle.std.specs.Prelude.{Option, Some, None}
+use Rattle.std.proofs.lemmas.Option.{none-some, same_Some}
 use Rattle.fields.specs.Numbers.{is_digit, value_from, digits_of, unsigned_of, negative, plain, long_number_of}
-use Rattle.fields.specs.declared.number.Digits.{Digits}
-use Rattle.fields.specs.declared.number.Digits.TheVariants.{Value, Other}
-use Rattle.fields.specs.declared.number.LongNumber.TheVariants as Long
 use Rattle.mirror.specs.Bytes.{mirror_number}
 
 -- ---- what has a value passed the tests before it
 
-unless : (b : Bool) (d : Digits) (w : ℕ) → cond b Other d ≡ Value w → (b ≡ false) × (d ≡ Value w)
-unless true d w e = absurd (let z : ◌≡◌ {A = ℕ} 0 1 = cc in (omega arith))
+unless : (b : Bool) (d : Option ℕ) (w : ℕ) → cond b None d ≡ Some w → (b ≡ false) × (d ≡ Some w)
+unless true d w e = absurd (none-some w e)
 unless false d w e = (refl, e)
 
-where-so : (b : Bool) (d : Digits) (w : ℕ) → cond b d Other ≡ Value w → (b ≡ true) × (d ≡ Value w)
+where-so : (b : Bool) (d : Option ℕ) (w : ℕ) → cond b d None ≡ Some w → (b ≡ true) × (d ≡ Some w)
 where-so true d w e = (refl, e)
-where-so false d w e = absurd (let z : ◌≡◌ {A = ℕ} 0 1 = cc in (omega arith))
+where-so false d w e = absurd (none-some w e)
 
 -- either test lets it pass
-one_of : (a b : Bool) (d : Digits) (w : ℕ) → cond a d (cond b Other d) ≡ Value w → (d ≡ Value w) × (b ≡ true → a ≡ true)
+one_of : (a b : Bool) (d : Option ℕ) (w : ℕ) → cond a d (cond b None d) ≡ Some w → (d ≡ Some w) × (b ≡ true → a ≡ true)
 one_of true b d w e = (e, λ h. refl)
 one_of false b d w e = ((unless b d w e).1, λ h. true-false h (unless b d w e).0)
 
-same-value : (v w : ℕ) → Value v ≡ Value w → v ≡ w
-same-value v w e = cc
-
 -- more digits make no number smaller
-value_grows : (v w : ℕ) (s : List ℕ) → value_from v s ≡ Value w → v ≤ w
+value_grows : (v w : ℕ) (s : List ℕ) → value_from v s ≡ Some w → v ≤ w
 unfolding value_from
-value_grows v w [] e = omega (arith, same-value v w e)
+value_grows v w [] e = omega (arith, same_Some v w e)
 value_grows v w (x ∷ s) e = omega (arith, value_grows (v * 10 + (x - 48)) w s (where-so (is_digit x) _ w e).1)
 
 -- ---- the first digit of a number without a sign: it is 0 in the number 0 alone
@@ -53,7 +49,7 @@ no_more : (x : ℕ) (xs : List ℕ) → length (x ∷ xs) ≡ 1 → xs ≡ []
 no_more x [] e = refl
 no_more x (y ∷ xs) e = absurd (omega arith)
 
-leads : (most x : ℕ) (xs : List ℕ) (n : ℕ) → unsigned_of most (x ∷ xs) ≡ Value n → Leads most x xs n
+leads : (most x : ℕ) (xs : List ℕ) (n : ℕ) → unsigned_of most (x ∷ xs) ≡ Some n → Leads most x xs n
 unfolding unsigned_of digits_of value_from
 leads most x xs n e =
     let s = x ∷ xs in
@@ -67,52 +63,49 @@ leads most x xs n e =
       nought =
           λ h.
           let one : xs ≡ [] = no_more x xs (eqb-true (length s) 1 (r.1 (eq-eqb x 48 h))) in
-          (one, same-value n 0 (sym (rw (one, h) at d.1)));
+          (one, same_Some n 0 (sym (rw (one, h) at d.1)));
       some = λ h. omega (arith, value_grows (0 * 10 + (x - 48)) n xs d.1);
     }
 
 -- ---- the numbers that are read: 0, those without a sign, those with a minus
 
 data Read (most : ℕ) : List ℕ → ℤ → Type 0 where
-  nought : unsigned_of most (48 ∷ []) ≡ Value 0 → Read most (48 ∷ []) (pos 0)
-  above : {x n : ℕ} {xs : List ℕ} → (x ≡ 45 → ⊥) → (x ≡ 48 → ⊥) → unsigned_of most (x ∷ xs) ≡ Value (suc n) → Read most (x ∷ xs) (pos (suc n))
-  below : {x n : ℕ} {xs : List ℕ} → (x ≡ 45 → ⊥) → (x ≡ 48 → ⊥) → unsigned_of most (x ∷ xs) ≡ Value (suc n) → Read most (45 ∷ (x ∷ xs)) (negsuc n)
+  nought : unsigned_of most (48 ∷ []) ≡ Some 0 → Read most (48 ∷ []) (pos 0)
+  above : {x n : ℕ} {xs : List ℕ} → (x ≡ 45 → ⊥) → (x ≡ 48 → ⊥) → unsigned_of most (x ∷ xs) ≡ Some (suc n) → Read most (x ∷ xs) (pos (suc n))
+  below : {x n : ℕ} {xs : List ℕ} → (x ≡ 45 → ⊥) → (x ≡ 48 → ⊥) → unsigned_of most (x ∷ xs) ≡ Some (suc n) → Read most (45 ∷ (x ∷ xs)) (negsuc n)
 
 module _ (most : ℕ) where
   -- a number that is not 0 begins neither with a minus nor with 0
-  no_minus : (x : ℕ) (xs : List ℕ) (n : ℕ) → unsigned_of most (x ∷ xs) ≡ Value n → x ≡ 45 → ⊥
+  no_minus : (x : ℕ) (xs : List ℕ) (n : ℕ) → unsigned_of most (x ∷ xs) ≡ Some n → x ≡ 45 → ⊥
   no_minus x xs n e h = omega (arith, (leads most x xs n e).digit)
 
-  no-nought : (x : ℕ) (xs : List ℕ) (n : ℕ) → unsigned_of most (x ∷ xs) ≡ Value (suc n) → x ≡ 48 → ⊥
+  no-nought : (x : ℕ) (xs : List ℕ) (n : ℕ) → unsigned_of most (x ∷ xs) ≡ Some (suc n) → x ≡ 48 → ⊥
   no-nought x xs n e h = omega (arith, ((leads most x xs (suc n) e).nought h).1)
 
-  empty-other : (n : ℕ) → unsigned_of most [] ≡ Value n → ⊥
+  empty-other : (n : ℕ) → unsigned_of most [] ≡ Some n → ⊥
   unfolding unsigned_of
-  empty-other n e = let z : ◌≡◌ {A = ℕ} 0 1 = cc in omega arith
+  empty-other n e = none-some n e
 
-  after_minus : (xs : List ℕ) (d : Digits) (z : ℤ) → unsigned_of most xs ≡ d → negative d ≡ Long.Value z → Read most (45 ∷ xs) z
-  after_minus xs (Value zero) z u e = absurd (let q : ◌≡◌ {A = ℕ} 0 1 = cc in (omega arith))
-  after_minus [] (Value (suc n)) z u e = absurd (empty-other (suc n) u)
-  after_minus (x ∷ xs) (Value (suc n)) z u e =
-      let q : negsuc n ≡ z = cc in
-      rw (← q) (below (no_minus x xs (suc n) u) (no-nought x xs n u) u)
-  after_minus xs Other z u e = absurd (let q : ◌≡◌ {A = ℕ} 0 1 = cc in (omega arith))
+  after_minus : (xs : List ℕ) (d : Option ℕ) (z : ℤ) → unsigned_of most xs ≡ d → negative d ≡ Some z → Read most (45 ∷ xs) z
+  after_minus xs (Some zero) z u e = absurd (none-some z e)
+  after_minus [] (Some (suc n)) z u e = absurd (empty-other (suc n) u)
+  after_minus (x ∷ xs) (Some (suc n)) z u e =
+      rw (← same_Some (negsuc n) z e) (below (no_minus x xs (suc n) u) (no-nought x xs n u) u)
+  after_minus xs None z u e = absurd (none-some z e)
 
-  without-minus : (x : ℕ) (xs : List ℕ) (d : Digits) (z : ℤ) → unsigned_of most (x ∷ xs) ≡ d → plain d ≡ Long.Value z → Read most (x ∷ xs) z
-  without-minus x xs (Value zero) z u e =
-      let q : pos 0 ≡ z = cc in
+  without-minus : (x : ℕ) (xs : List ℕ) (d : Option ℕ) (z : ℤ) → unsigned_of most (x ∷ xs) ≡ d → plain d ≡ Some z → Read most (x ∷ xs) z
+  without-minus x xs (Some zero) z u e =
       elim (ℕ_discrete x 48) [
-        | yes h ↦ let one : xs ≡ [] = ((leads most x xs 0 u).nought h).0 in rw (← q, h, one) (nought (rw (h, one) at u))
+        | yes h ↦ let one : xs ≡ [] = ((leads most x xs 0 u).nought h).0 in rw (← same_Some (pos 0) z e, h, one) (nought (rw (h, one) at u))
         | no h ↦ absurd (omega (arith, (leads most x xs 0 u).some h))
       ]
-  without-minus x xs (Value (suc n)) z u e =
-      let q : pos (suc n) ≡ z = cc in
-      rw (← q) (above (no_minus x xs (suc n) u) (no-nought x xs n u) u)
-  without-minus x xs Other z u e = absurd (let q : ◌≡◌ {A = ℕ} 0 1 = cc in (omega arith))
+  without-minus x xs (Some (suc n)) z u e =
+      rw (← same_Some (pos (suc n)) z e) (above (no_minus x xs (suc n) u) (no-nought x xs n u) u)
+  without-minus x xs None z u e = absurd (none-some z e)
 
-  read : (f : List ℕ) (z : ℤ) → long_number_of most f ≡ Long.Value z → Read most f z
+  read : (f : List ℕ) (z : ℤ) → long_number_of most f ≡ Some z → Read most f z
   unfolding long_number_of
-  read [] z e = absurd (let q : ◌≡◌ {A = ℕ} 0 1 = cc in (omega arith))
+  read [] z e = absurd (none-some z e)
   read (x ∷ xs) z e =
       elim (ℕ_discrete x 45) [
         | yes h ↦ rw h (after_minus xs (unsigned_of most xs) z refl (rw (eq-eqb x 45 h) at e))
@@ -120,7 +113,7 @@ module _ (most : ℕ) where
       ]
 
   -- and so they are read
-  is_read : {f : List ℕ} {z : ℤ} → Read most f z → long_number_of most f ≡ Long.Value z
+  is_read : {f : List ℕ} {z : ℤ} → Read most f z → long_number_of most f ≡ Some z
   unfolding long_number_of
   is_read (nought e) = rw e
   is_read (above {x} m n e) = rw (ne_eqb x 45 m, e)
@@ -144,8 +137,8 @@ module _ (most : ℕ) where
   short (below {x} {n} {xs} m k e) = omega (arith, (leads most x xs (suc n) e).few)
 
   -- THE LAWS: the mirror of a number is read as the number with its sign changed; mirrored twice it is what was there; it takes one byte more than its digits at most
-  module _ (f : List ℕ) (z : ℤ) (e : long_number_of most f ≡ Long.Value z) where
-    pub number-mirrored : long_number_of most (mirror_number f) ≡ Long.Value (neg_ℤ z)
+  module _ (f : List ℕ) (z : ℤ) (e : long_number_of most f ≡ Some z) where
+    pub number-mirrored : long_number_of most (mirror_number f) ≡ Some (neg_ℤ z)
     number-mirrored = is_read (mirrored (read f z e))
 
     pub number-twice : mirror_number (mirror_number f) ≡ f

@@ -1,8 +1,8 @@
 -- Fields that are parted by tabs are the line that they make, and its fields; and what holds of each byte of the ones holds of each byte of the other.
 -- Assumes nothing.
 use Prim.Native.Nat.{ℕ, zero, suc, ◌+◌, ◌≤◌}
-use mathlib.Core.Path.{◌≡◌, refl, sym, ap, ◌∙◌}
-use mathlib.Core.List.{List, [], ◌∷◌, ◌++◌, append-nil}
+use mathlib.Core.Path.{◌≡◌, refl, sym, ap}
+use mathlib.Core.List.{List, [], ◌∷◌, ◌++◌}
 use native.Mathlib.Omega.{arith}
 use native.Mathlib.Decide.{ℕ_discrete}
 use lib.ListN.{length, length-append}
@@ -11,6 +11,8 @@ use Rattle.lines.specs.Lines.{on_first}
 use Rattle.fields.specs.Fields.{fields, field_at}
 use Rattle.fields.proofs.FieldLaws.{fields-none, fields-tab, fields-other}
 use Rattle.meaning.specs.Endings.{Each, of_none, of_more}
+use Rattle.join.proofs.NumberBack.{each_both}
+use Rattle.join.proofs.BlockBack.{fields-parted}
 use Rattle.mirror.specs.Bytes.{parted}
 
 -- ---- the line of its fields
@@ -51,32 +53,13 @@ parted-fields line = untabbed line (fields line) (tabbed-fields line)
 
 -- ---- the fields of a line that was parted
 
-each-head : {X : Type 0} {P : X → Type 0} {x : X} {xs : List X} → Each P (x ∷ xs) → P x
-each-head (of_more p ps) = p
-
-each_tail : {X : Type 0} {P : X → Type 0} {x : X} {xs : List X} → Each P (x ∷ xs) → Each P xs
-each_tail (of_more p ps) = ps
-
 abbrev pub NoTab : ℕ → Type 0
 NoTab x = x ≡ 9 → ⊥
 
-one_field : {f : List ℕ} → Each NoTab f → fields f ≡ f ∷ []
-one_field of_none = fields-none
-one_field (of_more {x = x} {xs = f} v vs) = fields-other x f v ∙ ap (on_first x) (one_field vs)
-
-field-before : {f : List ℕ} (rest : List ℕ) → Each NoTab f → fields (f ++ (9 ∷ rest)) ≡ f ∷ fields rest
-field-before rest of_none = fields-tab 9 rest refl
-field-before rest (of_more {x = x} {xs = f} v vs) = fields-other x (f ++ (9 ∷ rest)) v ∙ ap (on_first x) (field-before rest vs)
-
 -- FIELDS THAT WERE PARTED ARE FOUND AGAIN, one or more of them and no tab in any
-fields-parted : {f : List ℕ} {fs : List (List ℕ)} → Each NoTab f → Each (Each NoTab) fs → fields (f ++ tabbed fs) ≡ f ∷ fs
-unfolding tabbed
-fields-parted {f} v of_none = ap fields (append-nil f) ∙ one_field v
-fields-parted {f} v (of_more {x = g} {xs = fs} w ws) = field-before (g ++ tabbed fs) v ∙ ap (λ (l : List (List ℕ)). f ∷ l) (fields-parted w ws)
-
 pub fields_back : (fs : List (List ℕ)) → 1 ≤ length fs → Each (Each NoTab) fs → fields (parted fs) ≡ fs
 fields_back [] some e = absurd (omega arith)
-fields_back (f ∷ fs) some e = fields-parted (each-head e) (each_tail e)
+fields_back (f ∷ fs) some (of_more v vs) = fields-parted (λ x n. n) v vs
 
 -- a line has a field
 pub fields-some : (line : List ℕ) → 1 ≤ length (fields line)
@@ -99,10 +82,6 @@ module _ {P : ℕ → Type 0} where
   each-any h [] = of_none
   each-any h (x ∷ xs) = of_more (h x) (each-any h xs)
 
-  pub each_append : {xs ys : List ℕ} → Each P xs → Each P ys → Each P (xs ++ ys)
-  each_append of_none qs = qs
-  each_append (of_more p ps) qs = of_more p (each_append ps qs)
-
   -- of a field, by its number
   pub each-field : {fs : List (List ℕ)} (k : ℕ) → Each (Each P) fs → Each P (field_at k fs)
   unfolding field_at
@@ -114,7 +93,7 @@ module _ {P : ℕ → Type 0} where
   pub each-tabbed : {fs : List (List ℕ)} → P 9 → Each (Each P) fs → Each P (tabbed fs)
   unfolding tabbed
   each-tabbed t of_none = of_none
-  each-tabbed t (of_more p ps) = of_more t (each_append p (each-tabbed t ps))
+  each-tabbed t (of_more p ps) = of_more t (each_both p (each-tabbed t ps))
 
   -- of the fields of a line: a tab is in none of them
   on-first : (x : ℕ) {fs : List (List ℕ)} → P x → Each (Each P) fs → Each (Each P) (on_first x fs)

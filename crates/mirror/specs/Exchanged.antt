@@ -1,9 +1,9 @@
 -- The sheet of a run and that of its mirror (docs/RULES.md, 'One rule for both directions').
-use Rattle.std.specs.Prelude.{ℕ, zero, suc, ◌+◌, ◌≡◌, List, [], ◌++◌}
+use Rattle.std.specs.Prelude.{ℕ, zero, suc, ◌+◌, ◌≡◌, List, [], ◌++◌, Err}
 use Rattle.vocabulary.specs.Direction.{mirror_of}
 use Rattle.vocabulary.specs.declared.direction.Direction.{Direction}
 use Rattle.vocabulary.specs.declared.direction.Direction.TheVariants.{Positive, Negative}
-use Rattle.vocabulary.specs.declared.refusal.Refusal.{Refusal}
+use Rattle.vocabulary.specs.Refusals.{Ruling}
 use Rattle.vocabulary.specs.declared.refusal.Refusal.TheVariants.{NoEnd}
 use Rattle.channel.specs.Mirror.{mirrored_block}
 use Rattle.sheets.specs.Sheet.{pool_text, total_text, block_text, refusal_text}
@@ -50,11 +50,11 @@ pub record MirrorAccepted (input : List ℕ) (g : Given) : Type 0 where
   pub text : settled (mirror_input input) ≡ header_text g ++ (quarters_exchanged 0 g (quarters_in g) ++ (total_of g ++ block_text (mirrored_block (block_in g))))
 
 -- THE MIRROR OF A REFUSED INPUT is refused at the same line with the same number; what was printed before is the same with P and N exchanged
-pub record MirrorRefused (input : List ℕ) (so : SoFar) (n : ℕ) (refusal : Refusal) : Type 0 where
+pub record MirrorRefused (input : List ℕ) (so : SoFar) (n : ℕ) (refusal : Ruling) : Type 0 where
   pub refused : RefusedInput (mirror_input input) (mirror_so so) n refusal
   pub text : settled (mirror_input input) ≡ printed_exchanged so ++ refusal_text n refusal
 
 -- THE MIRROR OF AN INPUT THAT STOPS SHORT stops short after as many lines
 pub record MirrorShort (input : List ℕ) (so : SoFar) (n : ℕ) : Type 0 where
   pub short : ShortInput (mirror_input input) (mirror_so so) n
-  pub text : settled (mirror_input input) ≡ printed_exchanged so ++ refusal_text n NoEnd
+  pub text : settled (mirror_input input) ≡ printed_exchanged so ++ refusal_text n (Err NoEnd)

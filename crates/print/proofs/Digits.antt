@@ -4,18 +4,15 @@ use mathlib.Core.Path.{◌≡◌, refl, sym, ap, ◌∙◌}
 use mathlib.Core.Bool.{true, false}
 use mathlib.Core.List.{List, [], ◌∷◌, ◌++◌, append_assoc}
 use native.Mathlib.Omega.{arith}
-use native.Mathlib.Decide.{dec_le}
-use native.Mathlib.Nat.{pow-suc, lt_of_not-le, not-suc-le-zero}
+use native.Mathlib.Nat.{pow-suc, not-suc-le-zero}
+use Rattle.std.proofs.Common.{⊎_elim}
+use Rattle.std.proofs.lemmas.Bool.{cases_lt}
 use borrow.Author.Tests.{ltb-true, lt-ltb, le-ltb}
 use lib.ListN.{length, length-append}
 use lib.Signed.{mag, lt_z}
 use lib.IntN.{ℤ, pos, negsuc, nat_abs}
 use Rattle.print.specs.Decimal.{hyphen, last_digit, digits_in, digits, number_text, two_digits, four_digits, date_text}
 use Rattle.arithmetic.specs.declared.date.Date.{Date}
-
--- one order or the other
-split : {X : Type 0} (a b : ℕ) → (a < b → X) → (b ≤ a → X) → X
-split a b f g = elim (dec_le b a) [ yes h ↦ g h | no h ↦ f (lt_of_not-le h) ]
 
 one_in : (f n : ℕ) → n < 10 → digits_in (suc f) n ≡ last_digit n
 unfolding digits_in
@@ -30,9 +27,10 @@ same : (f g n : ℕ) → n ≤ f → n ≤ g → digits_in (suc f) n ≡ digits_
 same zero g n hf hg = one_in 0 n (omega arith) ∙ sym (one_in g n (omega arith))
 same (suc f) zero n hf hg = one_in (suc f) n (omega arith) ∙ sym (one_in 0 n (omega arith))
 same (suc f) (suc g) n hf hg =
-    split n 10
+    ⊎_elim
     (λ h. one_in (suc f) n h ∙ sym (one_in (suc g) n h))
     (λ h. more-in (suc f) n h ∙ ap (λ (l : List ℕ). l ++ last_digit n) (same f g (n / 10) (omega arith) (omega arith)) ∙ sym (more-in (suc g) n h))
+    (cases_lt n 10)
 
 pub digits-one : (n : ℕ) → n < 10 → digits n ≡ (48 + n) ∷ []
 unfolding digits
@@ -89,9 +87,10 @@ digits-myriad n h =
 pub digits-length : (k n : ℕ) → n < 10 ^ suc k → length (digits n) ≤ suc k
 digits-length zero n h = rw (digits-one n h) (omega arith)
 digits-length (suc k) n h =
-    split n 10
+    ⊎_elim
     (λ s. rw (digits-one n s) (omega arith))
     (λ s. rw (digits_more n s) (omega (arith, length-append (digits (n / 10)) (last_digit n), digits-length k (n / 10) (omega (arith, pow-suc 10 (suc k))))))
+    (cases_lt n 10)
 
 pub text-negative : (z : ℤ) → lt_z z (pos 0) ≡ true → number_text z ≡ hyphen ++ digits (nat_abs z)
 unfolding number_text

@@ -5,7 +5,7 @@ use mathlib.Core.List.{List, [], ◌∷◌, ◌++◌, map, map-append, append_as
 use native.Mathlib.Omega.{arith}
 use native.Mathlib.Numerals.{add-one}
 use lib.ListN.{length, take, get_or, length-append}
-use lib.Seq.{take-suc, take_all}
+use lib.Seq.{take-suc}
 use Rattle.print.specs.Print.{Wrote, last}
 use Rattle.print.specs.Decimal.{tab, digits}
 use Rattle.print.specs.Fields.{tabbed}
@@ -27,7 +27,7 @@ pub record Numbered (numbers : List ℕ) (d : List ℕ) (at : ℕ) (i r : ℕ) (
   pub wrote : Wrote d at (tabbed (map digits (take i numbers))) r d'
   pub short : length (tabbed (map digits (take i numbers))) ≤ 21 * i
 
--- none yet, one more, and all of them
+-- none yet, and one more
 pub no-numbers : {d : List ℕ} {at : ℕ} (numbers : List ℕ) → at ≤ last → length d ≤ last → Numbered numbers d at 0 at d
 unfolding tabbed
 no-numbers numbers h l = record { within = omega arith; wrote = wrote_nothing h l; short = omega arith }
@@ -45,10 +45,3 @@ number_more numbers i h p q s =
       wrote = rw e (join p.wrote q);
       short = rw e (omega (arith, p.short, s, length-append (tabbed (map digits (take i numbers))) (tab ++ x)));
     }
-
-pub numbers-all : {d d' : List ℕ} {at r : ℕ} (numbers : List ℕ) (i : ℕ) → length numbers ≤ i → Numbered numbers d at i r d'
-    → Wrote d at (tabbed (map digits numbers)) r d' × (length (tabbed (map digits numbers)) ≤ 21 * length numbers)
-numbers-all numbers i l p =
-    let n : i ≡ length numbers = omega (arith, p.within) in
-    let e : take i numbers ≡ numbers = take_all i numbers l in
-    (rw e at p.wrote, rw (← n) (rw e at p.short))

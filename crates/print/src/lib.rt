@@ -1,5 +1,6 @@
 // Text, written into a lent buffer from a place on. Each function answers the place after its text. What lies past the
 // buffer's end is not written, so no buffer is too short for a call, and the same call on one byte measures a text.
+// Buffer and place stay two parameters: a struct of both was tried, and each function then promised besides that it still holds the same buffer.
 #![tactic(auto)]
 
 ghost use Rattle.std.specs.Prelude.{◌*◌, ◌≤◌, ◌<◌, [], ◌∷◌, ◌++◌, map, length};
@@ -9,32 +10,23 @@ ghost use Rattle.print.specs.Fields.{tabbed};
 
 use arithmetic::date::Date;
 use arithmetic::money::Cents;
-use arithmetic::whole::magnitude;
 
-// The last place that there is a number for: none comes after it, and no buffer reaches it.
-const LAST: usize = 18446744073709551615;
-
+// The last place that there is a number for stands for all that lie past it: no buffer reaches it.
 pub fn put(buf: &mut [u8], at: usize, byte: u8) -> usize
     ensures { Wrote buf.old at (byte ∷ []) result buf.new }
 {
     if at < buf.len() {
         buf[at] = byte;
-        return at + 1;
     }
-    if at == LAST {
-        return at;
-    }
-    at + 1
+    at.saturating_add(1)
 }
 
 pub fn put_bytes(buf: &mut [u8], at: usize, bytes: &[u8]) -> usize
     ensures { Wrote buf.old at bytes.now result buf.new }
 {
     let mut next = at;
-    let mut i = 0;
-    while i < bytes.len() {
-        next = put(buf, next, bytes[i]);
-        i += 1;
+    for byte in bytes {
+        next = put(buf, next, *byte);
     }
     next
 }
@@ -54,8 +46,8 @@ pub fn put_line_end(buf: &mut [u8], at: usize) -> usize
 fn put_two(buf: &mut [u8], at: usize, n: u16) -> usize
     ensures { Wrote buf.old at (two_digits n) result buf.new }
 {
-    let ones = put(buf, at, 48 + (n / 10 % 10) as u8);
-    put(buf, ones, 48 + (n % 10) as u8)
+    let ones = put(buf, at, b'0' + (n / 10 % 10) as u8);
+    put(buf, ones, b'0' + (n % 10) as u8)
 }
 
 fn put_four(buf: &mut [u8], at: usize, n: u16) -> usize
@@ -71,16 +63,15 @@ fn put_short(buf: &mut [u8], at: usize, n: u16) -> usize
     ensures { Wrote buf.old at (digits n) result buf.new }
 {
     if n < 10 {
-        return put(buf, at, 48 + n as u8);
+        put(buf, at, b'0' + n as u8)
+    } else if n < 100 {
+        put_two(buf, at, n)
+    } else if n < 1_000 {
+        let tens = put(buf, at, b'0' + (n / 100) as u8);
+        put_two(buf, tens, n)
+    } else {
+        put_four(buf, at, n)
     }
-    if n < 100 {
-        return put_two(buf, at, n);
-    }
-    if n < 1_000 {
-        let tens = put(buf, at, 48 + (n / 100) as u8);
-        return put_two(buf, tens, n);
-    }
-    put_four(buf, at, n)
 }
 
 // A number of any length, four digits at a time.
@@ -99,19 +90,22 @@ pub fn put_count(buf: &mut [u8], at: usize, n: u64) -> usize
     ensures { Wrote buf.old at (digits n) result buf.new }
 {
     if n < 10 {
-        return put(buf, at, 48 + n as u8);
+        put(buf, at, b'0' + n as u8)
+    } else {
+        put_long(buf, at, n)
     }
-    put_long(buf, at, n)
 }
 
 pub fn put_number(buf: &mut [u8], at: usize, n: i64) -> usize
     ensures { Wrote buf.old at (number_text n) result buf.new }
 {
+    let size = n.unsigned_abs();
     if n < 0 {
         let first = put(buf, at, b'-');
-        return put_count(buf, first, magnitude(n));
+        put_count(buf, first, size)
+    } else {
+        put_count(buf, at, size)
     }
-    put_count(buf, at, magnitude(n))
 }
 
 // The part of a date that follows another.
@@ -119,7 +113,7 @@ fn put_part(buf: &mut [u8], at: usize, n: u8) -> usize
     ensures { Wrote buf.old at (hyphen ++ two_digits n) result buf.new }
 {
     let next = put(buf, at, b'-');
-    put_two(buf, next, n as u16)
+    put_two(buf, next, u16::from(n))
 }
 
 // Always ten bytes: of a year above 9999, and of a month or a day above 99, the last digits.
@@ -145,10 +139,8 @@ pub fn put_fields(buf: &mut [u8], at: usize, numbers: &[u64]) -> usize
     ensures short { length (tabbed (map digits numbers.now)) ≤ 21 * length numbers.now }
 {
     let mut next = at;
-    let mut i = 0;
-    while i < numbers.len() {
-        next = put_field(buf, next, numbers[i]);
-        i += 1;
+    for number in numbers {
+        next = put_field(buf, next, *number);
     }
     next
 }

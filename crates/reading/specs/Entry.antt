@@ -1,11 +1,9 @@
 -- The lines of a recording, by their fields (docs/RULES.md, 'Mending a recording'):
 --   D|date|interval|lot|quarters    G|second|setpoint|actual    E
 -- D and E are those of a settlement; any other first field is 14.
-use Rattle.std.specs.Prelude.{ℕ, cond, List, length, eqb, ltb}
+use Rattle.std.specs.Prelude.{ℕ, cond, List, length, eqb, ltb, ℤ, Option, Some, None}
 use Rattle.fields.specs.Fields.{fields, field_at}
 use Rattle.fields.specs.Numbers.{number_of}
-use Rattle.fields.specs.declared.number.Number.{Number}
-use Rattle.fields.specs.declared.number.Number.TheVariants as N
 use Rattle.reading.specs.Line.{is_letter, header_of, end_of}
 use Rattle.reading.specs.declared.Line.{Line}
 use Rattle.reading.specs.declared.Line.TheVariants as L
@@ -29,11 +27,11 @@ entry_by L.End = End
 entry_by L.Malformed = Malformed
 
 -- a second, a setpoint and an actual, each a number
-abbrev pub recorded_fields : Number → Number → Number → Entry
-recorded_fields (N.Value second) (N.Value setpoint) (N.Value actual) = Recorded (record { second = second; sample = record { setpoint = setpoint; actual = actual } })
-recorded_fields (N.Value second) (N.Value setpoint) N.Malformed = Malformed
-recorded_fields (N.Value second) N.Malformed actual = Malformed
-recorded_fields N.Malformed setpoint actual = Malformed
+abbrev pub recorded_fields : Option ℤ → Option ℤ → Option ℤ → Entry
+recorded_fields (Some second) (Some setpoint) (Some actual) = Recorded (record { second = second; sample = record { setpoint = setpoint; actual = actual } })
+recorded_fields (Some second) (Some setpoint) None = Malformed
+recorded_fields (Some second) None actual = Malformed
+recorded_fields None setpoint actual = Malformed
 
 -- the fields are counted from 0, which is the letter
 unfoldable pub recorded_of : List (List ℕ) → Entry

@@ -1,23 +1,20 @@
 -- The lines that a checker of shares reads, by their fields (docs/RULES.md, 'Text'): those of an input that is settled, and
 --   U|quarter|P or N|identifier|share
-use Rattle.std.specs.Prelude.{ℕ, cond, List, length, eqb, ltb}
+use Rattle.std.specs.Prelude.{ℕ, cond, List, length, eqb, ltb, ℤ, Option, Some, None}
+use Rattle.vocabulary.specs.declared.direction.Direction.{Direction}
 use Rattle.fields.specs.Fields.{fields, field_at}
 use Rattle.fields.specs.Numbers.{number_of}
-use Rattle.fields.specs.declared.number.Number.{Number}
-use Rattle.fields.specs.declared.number.Number.TheVariants as N
-use Rattle.reading.specs.declared.DirectionField.{DirectionField}
-use Rattle.reading.specs.declared.DirectionField.TheVariants as DF
 use Rattle.reading.specs.declared.Line.TheVariants.{Malformed}
 use Rattle.reading.specs.declared.share.Asked.{Asked}
 use Rattle.reading.specs.declared.share.Asked.TheVariants.{Settling, Share}
 use Rattle.reading.specs.Line.{is_letter, direction_of, line_of}
 
 -- one field of another form makes the line malformed
-abbrev pub share_fields : Number → DirectionField → Number → Asked
-share_fields (N.Value quarter) (DF.Of direction) (N.Value kwh) = Share (record { quarter = quarter; direction = direction; kwh = kwh })
-share_fields (N.Value quarter) (DF.Of direction) N.Malformed = Settling Malformed
-share_fields (N.Value quarter) DF.Malformed kwh = Settling Malformed
-share_fields N.Malformed direction kwh = Settling Malformed
+abbrev pub share_fields : Option ℤ → Option Direction → Option ℤ → Asked
+share_fields (Some quarter) (Some direction) (Some kwh) = Share (record { quarter = quarter; direction = direction; kwh = kwh })
+share_fields (Some quarter) (Some direction) None = Settling Malformed
+share_fields (Some quarter) None kwh = Settling Malformed
+share_fields None direction kwh = Settling Malformed
 
 -- the fields are counted from 0, which is the letter
 unfoldable pub share_of : List (List ℕ) → Asked

@@ -1,12 +1,10 @@
 // One line of a recording, of which any bytes may come, without its LF: the header and the end as a settlement has them, and the line of a recorded sample.
 ghost use Rattle.std.specs.Prelude.{◌≡◌};
 ghost use Rattle.fields.specs.Fields.{fields};
-ghost use Rattle.fields.specs.Split.{split_of};
-ghost use Rattle.reading.specs.Entry.{entry_kind_of, entry_by, recorded_fields, recorded_of, entry_of};
+ghost use Rattle.reading.specs.Entry.{entry_kind_of, entry_by, recorded_of, entry_of};
 
-use crate::{Line, end_from, header_from, is_letter, number_at};
-use fields::number::Number;
-use fields::split::{Split, split_of};
+use crate::parted::Parted;
+use crate::{Line, end_from, header_from};
 use vocabulary::header::Header;
 use vocabulary::recorded::Recorded;
 use vocabulary::sample::Sample;
@@ -32,16 +30,12 @@ pub enum EntryKind {
 fn entry_kind(field: &[u8]) -> EntryKind
     ensures { result ≡ entry_kind_of field.now }
 {
-    if is_letter(field, b'G') {
-        return EntryKind::Recorded;
+    match field {
+        b"G" => EntryKind::Recorded,
+        b"D" => EntryKind::Header,
+        b"E" => EntryKind::End,
+        _ => EntryKind::Unknown,
     }
-    if is_letter(field, b'D') {
-        return EntryKind::Header;
-    }
-    if is_letter(field, b'E') {
-        return EntryKind::End;
-    }
-    EntryKind::Unknown
 }
 
 // What a line of a settlement says in a recording, which has its headers and its ends alone.
@@ -50,46 +44,31 @@ fn entry_by(line: Line) -> Entry
 {
     match line {
         Line::Header(header) => Entry::Header(header),
-        Line::Bounds(_) => Entry::Malformed,
-        Line::Setpoint(_) => Entry::Malformed,
-        Line::Contract(_) => Entry::Malformed,
-        Line::Sample(_) => Entry::Malformed,
         Line::End => Entry::End,
-        Line::Malformed => Entry::Malformed,
+        _ => Entry::Malformed,
     }
 }
 
-// Its fields: one of another form makes the line malformed.
-fn recorded_of(second: Number, setpoint: Number, actual: Number) -> Entry
-    ensures { result ≡ recorded_fields second setpoint actual }
+// Its fields, if there are as many: one of another form makes the line malformed.
+fn recorded_from(line: Parted) -> Entry
+    ensures { result ≡ recorded_of (fields line.entry.line.now) }
 {
-    let Number::Value(second) = second else {
+    if line.count() != 4 {
+        return Entry::Malformed;
+    }
+    let Some(second) = line.number(1) else {
         return Entry::Malformed;
     };
-    let Number::Value(setpoint) = setpoint else {
+    let Some(setpoint) = line.number(2) else {
         return Entry::Malformed;
     };
-    let Number::Value(actual) = actual else {
+    let Some(actual) = line.number(3) else {
         return Entry::Malformed;
     };
     Entry::Recorded(Recorded {
         second,
         sample: Sample { setpoint, actual },
     })
-}
-
-// The same of a line that was split, if it has as many fields.
-fn recorded_from(line: &[u8], split: Split) -> Entry
-    requires { split ≡ split_of line.now }
-    ensures { result ≡ recorded_of (fields line.now) }
-{
-    if split.count != 4 {
-        return Entry::Malformed;
-    }
-    let second = number_at(line, split, 1);
-    let setpoint = number_at(line, split, 2);
-    let actual = number_at(line, split, 3);
-    recorded_of(second, setpoint, actual)
 }
 
 // A line of 81 bytes stands for any that is longer.
@@ -99,12 +78,11 @@ pub fn read_entry(line: &[u8]) -> Entry
     if 80 < line.len() {
         return Entry::Malformed;
     }
-    let split = split_of(line);
-    let kind = entry_kind(split.field(line, 0));
-    match kind {
-        EntryKind::Header => entry_by(header_from(line, split)),
-        EntryKind::Recorded => recorded_from(line, split),
-        EntryKind::End => entry_by(end_from(line, split)),
+    let line = Parted::of(line);
+    match entry_kind(line.field(0)) {
+        EntryKind::Header => entry_by(header_from(line)),
+        EntryKind::Recorded => recorded_from(line),
+        EntryKind::End => entry_by(end_from(line)),
         EntryKind::Unknown => Entry::Malformed,
     }
 }

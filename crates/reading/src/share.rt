@@ -1,12 +1,10 @@
 // U lines, which say shares that somebody else made: for a program that reads them beside the lines of an input that is settled.
 ghost use Rattle.std.specs.Prelude.{◌≡◌};
 ghost use Rattle.fields.specs.Fields.{fields};
-ghost use Rattle.fields.specs.Split.{split_of};
-ghost use Rattle.reading.specs.Share.{share_fields, share_of, whose_of, asked_of};
+ghost use Rattle.reading.specs.Share.{share_of, whose_of, asked_of};
 
-use crate::{DirectionField, Line, direction_of, is_letter, number_at, read};
-use fields::number::Number;
-use fields::split::{Split, split_of};
+use crate::parted::Parted;
+use crate::{Line, direction_of, is_letter, read};
 use vocabulary::direction::Direction;
 
 // The quarter hour from 0, the direction, and the share in kWh. Whose share it is is kept beside it: see `whose`.
@@ -24,17 +22,20 @@ pub enum Asked {
     Share(Share),
 }
 
-// A field of another form makes the line malformed.
-fn share_of(quarter: Number, direction: DirectionField, kwh: Number) -> Asked
-    ensures { result ≡ share_fields quarter direction kwh }
+// Its fields, if there are as many: one of another form makes the line malformed.
+fn share_from(line: Parted) -> Asked
+    ensures { result ≡ share_of (fields line.entry.line.now) }
 {
-    let Number::Value(quarter) = quarter else {
+    if line.count() != 5 {
+        return Asked::Settling(Line::Malformed);
+    }
+    let Some(quarter) = line.number(1) else {
         return Asked::Settling(Line::Malformed);
     };
-    let DirectionField::Of(direction) = direction else {
+    let Some(direction) = direction_of(line.field(2)) else {
         return Asked::Settling(Line::Malformed);
     };
-    let Number::Value(kwh) = kwh else {
+    let Some(kwh) = line.number(4) else {
         return Asked::Settling(Line::Malformed);
     };
     Asked::Share(Share {
@@ -44,25 +45,11 @@ fn share_of(quarter: Number, direction: DirectionField, kwh: Number) -> Asked
     })
 }
 
-// The same of a line that was split.
-fn share_from(line: &[u8], split: Split) -> Asked
-    requires { split ≡ split_of line.now }
-    ensures { result ≡ share_of (fields line.now) }
-{
-    if split.count != 5 {
-        return Asked::Settling(Line::Malformed);
-    }
-    let quarter = number_at(line, split, 1);
-    let direction = direction_of(split.field(line, 2));
-    let kwh = number_at(line, split, 4);
-    share_of(quarter, direction, kwh)
-}
-
 // The bytes of the identifier on a U line, whatever they are: empty where a line has not so many fields.
 pub fn whose(line: &[u8]) -> &[u8]
     ensures { result.now ≡ whose_of line.now }
 {
-    split_of(line).field(line, 3)
+    Parted::of(line).field(3)
 }
 
 // A line of 81 bytes stands for any that is longer.
@@ -72,9 +59,9 @@ pub fn read_asked(line: &[u8]) -> Asked
     if 80 < line.len() {
         return Asked::Settling(Line::Malformed);
     }
-    let split = split_of(line);
-    if is_letter(split.field(line, 0), b'U') {
-        return share_from(line, split);
+    let parted = Parted::of(line);
+    if is_letter(parted.field(0), b'U') {
+        return share_from(parted);
     }
     Asked::Settling(read(line))
 }

@@ -8,6 +8,7 @@ use vocabulary::refusal::Refusal;
 use vocabulary::sample::{Sample, in_range};
 
 // Only the first `filled` places count.
+// Stays two arrays: there is no heap, and channel and claims go along the setpoints and the actuals apart.
 #[derive(Clone, Copy)]
 pub struct Tape {
     pub setpoints: [i32; 900],
@@ -15,30 +16,26 @@ pub struct Tape {
     pub filled: usize,
 }
 
-// The tape with the samples before the first that is refused, and why that one is.
-#[derive(Clone, Copy)]
-pub struct Recorded {
-    pub tape: Tape,
-    pub refusal: Refusal,
-}
-
-// Why a sample is refused: a quarter hour waits, or all are taken; or a power is out of range.
-fn sample_refusal(samples: usize, filled: usize, taken: u8, quarters: u8, sample: Sample) -> Refusal
+// Why a sample is refused: a quarter hour waits, or all are taken; or a power is out of range. The counts go one by one: they come from three places.
+fn sample_refusal(
+    samples: usize,
+    filled: usize,
+    taken: u8,
+    quarters: u8,
+    sample: Sample,
+) -> Result<(), Refusal>
     ensures { Admitted samples filled taken quarters sample.setpoint sample.actual result }
 {
     if samples <= filled {
-        return Refusal::WrongMoment;
+        return Err(Refusal::WrongMoment);
     }
     if quarters <= taken {
-        return Refusal::WrongMoment;
+        return Err(Refusal::WrongMoment);
     }
-    if !in_range(sample.setpoint) {
-        return Refusal::BadPower;
+    if !in_range(sample.setpoint) || !in_range(sample.actual) {
+        return Err(Refusal::BadPower);
     }
-    if !in_range(sample.actual) {
-        return Refusal::BadPower;
-    }
-    Refusal::None
+    Ok(())
 }
 
 impl Tape {
@@ -47,36 +44,24 @@ impl Tape {
         requires { self.filled < 900 }
         ensures { result ≡ longer self sample.setpoint sample.actual }
     {
-        let at = self.filled;
-        let setpoint = sample.setpoint;
-        let actual = sample.actual;
-        self.setpoints[at] = setpoint;
-        self.actuals[at] = actual;
-        self.filled = at + 1;
+        self.setpoints[self.filled] = sample.setpoint;
+        self.actuals[self.filled] = sample.actual;
+        self.filled += 1;
         self
     }
 
-    // One sample of a quarter hour, kept where it is not refused.
+    // With one sample more of a quarter hour, where it is not refused.
     pub fn with_sample(
         self,
         interval: Interval,
         taken: u8,
         quarters: u8,
         sample: Sample,
-    ) -> Recorded
+    ) -> Result<Tape, Refusal>
         ensures { result ≡ one_recorded (windows_of interval).samples taken quarters self sample.setpoint sample.actual }
     {
-        let windows = interval.windows();
-        let refusal = sample_refusal(windows.samples, self.filled, taken, quarters, sample);
-        if refusal.number() != 0 {
-            return Recorded {
-                tape: self,
-                refusal: refusal,
-            };
-        }
-        Recorded {
-            tape: self.with(sample),
-            refusal: refusal,
-        }
+        let samples = interval.windows().samples;
+        sample_refusal(samples, self.filled, taken, quarters, sample)?;
+        Ok(self.with(sample))
     }
 }

@@ -1,5 +1,5 @@
 -- A stretch of a block, from one of its complete lines.
-use Rattle.std.proofs.Common.{◌≡◌, ℕ, ◌-◌, ◌<◌, ◌≤◌, List, [], length, take, ℤ, ap, ◌∙◌, arith}
+use Rattle.std.proofs.Common.{◌≡◌, ℕ, ◌-◌, ◌<◌, ◌≤◌, min, List, [], length, take, ℤ, ap, ◌∙◌, arith}
 use Rattle.arithmetic.specs.Whole.{least_of}
 use Rattle.samples.specs.Stretch.{front_samples, bytes_of, setpoints_of, actuals_of, lines_at, Reads, most_of}
 use Rattle.samples.specs.Scan.{Cut}
@@ -22,21 +22,10 @@ pub none-past : {block : List ℕ} {e : ℕ} (n at : ℕ) → Cut block e → e 
 none-past n at c h = ap (front_samples n) (nothing-past c at h) ∙ no_line_lem n
 
 -- so many there is room for
-least-left : (a b : ℕ) → least_of a b ≤ a
-unfolding least_of
-least-left a b = omega arith
-
-least-right : (a b : ℕ) → least_of a b ≤ b
-unfolding least_of
-least-right a b = omega arith
-
-module _ (filled until : ℕ) (sp ac : List ℤ) {m n : ℕ} (p : m ≡ least_of until (length sp)) (q : n ≡ least_of m (length ac)) where
+module _ (filled until : ℕ) (sp ac : List ℤ) {m n : ℕ} (p : m ≡ min until (length sp)) (q : n ≡ min m (length ac)) where
   pub most-is : most_of filled until sp ac ≡ n - filled
-  unfolding most_of
-  most-is = rw (q, p)
-
-  pub most-fits : (n ≤ length sp) × (n ≤ length ac)
-  most-fits = (omega (arith, least-left m (length ac), least-right until (length sp)), omega (arith, least-right m (length ac)))
+  unfolding most_of least_of
+  most-is = omega arith
 
   pub no_room : (lines : List (List ℕ)) → n ≤ filled → front_samples (most_of filled until sp ac) lines ≡ []
   no_room lines h = none-wanted _ _ (most-is ∙ omega arith)

@@ -1,10 +1,10 @@
 -- Digits as they are scanned, and the number that they spell.
+use Rattle.std.specs.Prelude.{Some, None}
 use Rattle.std.proofs.Common.{◌≡◌, ℕ, zero, suc, ◌+◌, ◌-◌, ◌*◌, ◌%◌, ◌^◌, ◌<◌, ◌≤◌, Bool, true, false, ◌&&◌, leb, ◌⊎◌, List, [], ◌∷◌, ◌++◌, length, get_or, drop, sym, refl, ap, ◌∙◌, inl, inr, ⊎_elim, add-zero, add-suc, eq-zero-or-pos, suc-add, pow-suc, lt_of_not-le, zero-add, add-one, arith, drop-cons, le-leb, leb-true}
 use native.Mathlib.Decide.{dec_le}
 use native.Mathlib.Nat.{pow-le-pow_right}
 use borrow.Author.Tests.{lt-leb}
 use Rattle.fields.specs.Numbers.{is_digit, value_from}
-use Rattle.fields.specs.declared.number.Digits.TheVariants as F
 use Rattle.samples.specs.Scan.{Ended, digits_from, Counted}
 use Rattle.samples.proofs.Places.{next}
 use Rattle.samples.specs.declared.Digits.{Digits}
@@ -27,14 +27,17 @@ pub is_digit_lem : (x : ℕ) → is_digit x ≡ true → (48 ≤ x) × (x ≤ 57
 is_digit_lem x e = let q = both (leb 48 x) (leb x 57) e in (leb-true _ _ q.0, leb-true _ _ q.1)
 
 -- a byte less that of 0, where a smaller one wraps
-module _ (x d : ℕ) (byte : x < 256) (small : d < 2 ^ 32) (wraps : (d + 48) % 2 ^ 32 ≡ x) where
-  pub wrapped-digit : d ≤ 9 → is_digit x ≡ true
+module _ {x : ℕ} (byte : x < 256) where
+  abbrev less : ℕ
+  less = (x + 4294967248) % 4294967296
+
+  pub wrapped-digit : less ≤ 9 → is_digit x ≡ true
   wrapped-digit h = let low : 48 ≤ x = omega arith in let high : x ≤ 57 = omega arith in digit low high
 
-  pub wrapped-value : d ≤ 9 → d ≡ x - 48
+  pub wrapped-value : less ≤ 9 → less ≡ x - 48
   wrapped-value h = omega arith
 
-  pub wrapped-other : 9 < d → is_digit x ≡ false
+  pub wrapped-other : 9 < less → is_digit x ≡ false
   wrapped-other h = ⊎_elim (λ (a : 48 - x ≡ 0). let high : 57 < x = omega arith in above-digits high) (λ (a : 0 < 48 - x). let low : x < 48 = omega arith in below-digits low) (eq-zero-or-pos (48 - x))
 
 -- k digits make a value below 10 ^ k
@@ -71,18 +74,18 @@ pub record Spelled (t : List ℕ) (at v : ℕ) (r : Digits) : Type 0 where
   pub bytes : List ℕ
   pub rest : List ℕ
   pub form : t ≡ bytes ++ rest
-  pub says : value_from v bytes ≡ F.Value r.value
+  pub says : value_from v bytes ≡ Some r.value
   pub place : r.to ≡ at + length bytes
 
 value-more : (v x : ℕ) (xs : List ℕ) → is_digit x ≡ true → value_from v (x ∷ xs) ≡ value_from (v * 10 + (x - 48)) xs
 unfolding value_from
 value-more v x xs d = rw d
 
-value_none : (v x : ℕ) (xs : List ℕ) → is_digit x ≡ false → value_from v (x ∷ xs) ≡ F.Other
+value_none : (v x : ℕ) (xs : List ℕ) → is_digit x ≡ false → value_from v (x ∷ xs) ≡ None
 unfolding value_from
 value_none v x xs d = rw d
 
-value-here : (v : ℕ) → value_from v [] ≡ F.Value v
+value-here : (v : ℕ) → value_from v [] ≡ Some v
 unfolding value_from
 value-here v = refl
 
@@ -117,20 +120,20 @@ spelled (suc n) (x ∷ xs) at v =
     (told (is_digit x))
 
 -- a value only grows
-pub digit-of : (v x w : ℕ) (xs : List ℕ) → value_from v (x ∷ xs) ≡ F.Value w → is_digit x ≡ true
+pub digit-of : (v x w : ℕ) (xs : List ℕ) → value_from v (x ∷ xs) ≡ Some w → is_digit x ≡ true
 digit-of v x w xs e = ⊎_elim (λ d. d) (λ d. absurd (let q : ◌≡◌ {A = ℕ} 0 1 = cc (value_none v x xs d) in (omega arith))) (told (is_digit x))
 
-pub after-digit : (v x w : ℕ) (xs : List ℕ) → value_from v (x ∷ xs) ≡ F.Value w → value_from (v * 10 + (x - 48)) xs ≡ F.Value w
+pub after-digit : (v x w : ℕ) (xs : List ℕ) → value_from v (x ∷ xs) ≡ Some w → value_from (v * 10 + (x - 48)) xs ≡ Some w
 after-digit v x w xs e = sym (value-more v x xs (digit-of v x w xs e)) ∙ e
 
-grown-by : (bytes : List ℕ) (v w k : ℕ) → 10 ^ k ≤ v → value_from v bytes ≡ F.Value w → 10 ^ (k + length bytes) ≤ w
+grown-by : (bytes : List ℕ) (v w k : ℕ) → 10 ^ k ≤ v → value_from v bytes ≡ Some w → 10 ^ (k + length bytes) ≤ w
 grown-by [] v w k h e = let q : v ≡ w = cc (value-here v) in rw (add-zero k) (omega arith)
 grown-by (x ∷ xs) v w k h e =
     rw (add-suc k (length xs), ← suc-add k (length xs))
     (grown-by xs (v * 10 + (x - 48)) w (suc k) (omega (arith, pow-suc 10 k)) (after-digit v x w xs e))
 
 -- so a power has at most seven digits, if the first is not 0
-pub seven : (x w : ℕ) (xs : List ℕ) → (x ≡ 48 → ⊥) → value_from 0 (x ∷ xs) ≡ F.Value w → w ≤ 2000000 → length xs ≤ 6
+pub seven : (x w : ℕ) (xs : List ℕ) → (x ≡ 48 → ⊥) → value_from 0 (x ∷ xs) ≡ Some w → w ≤ 2000000 → length xs ≤ 6
 seven x w xs n e small =
     let d = is_digit_lem x (digit-of 0 x w xs e) in
     let h : 48 < x = omega arith in
@@ -142,7 +145,7 @@ seven x w xs n e small =
     ]
 
 -- and its digits, which end before another byte, are all scanned
-pub scanned : (n : ℕ) (bytes rest : List ℕ) (at v byte w : ℕ) → is_digit byte ≡ false → value_from v bytes ≡ F.Value w → length bytes ≤ n
+pub scanned : (n : ℕ) (bytes rest : List ℕ) (at v byte w : ℕ) → is_digit byte ≡ false → value_from v bytes ≡ Some w → length bytes ≤ n
     → digits_from n at v (bytes ++ (byte ∷ rest)) ≡ record { value = w; to = at + length bytes }
 scanned zero [] rest at v byte w d e few = let q : v ≡ w = cc (value-here v) in full at v (byte ∷ rest) ∙ rw (q, add-zero at)
 scanned zero (x ∷ xs) rest at v byte w d e few = absurd (omega arith)
@@ -186,7 +189,8 @@ module _ {s : List ℕ} {from value k : ℕ} (m : Midway s from value k) where
     pub stopped : is_digit here ≡ false → Counted s from (record { value = value; to = from + k })
     stopped other = record { is = sym (m.left ∙ rw again (stop-at s (7 - (k + 1)) value (from + k) m.here.within other)); stands = m.here }
 
-  pub all : 7 ≤ k → Counted s from (record { value = value; to = from + k })
+  pub all : 7 ≤ k → Counted s from (record { value = value; to = from + 7 })
   all h =
+      let seventh : k ≡ 7 = omega (arith, m.few) in
       let none : 7 - k ≡ 0 = omega arith in
-      record { is = sym (m.left ∙ rw none (full (from + k) value (drop (from + k) s))); stands = m.here }
+      rw (← seventh) (record { is = sym (m.left ∙ rw none (full (from + k) value (drop (from + k) s))); stands = m.here })

@@ -1,11 +1,10 @@
 -- A power that a byte ends, as it is scanned: what is found is one, and no second stands there.
+use Rattle.std.specs.Prelude.{Some, None}
 use Rattle.std.proofs.Common.{◌≡◌, ℕ, ◌+◌, ◌<◌, ◌≤◌, List, [], ◌∷◌, ◌++◌, length, get_or, drop, sym, refl, ap, ◌∙◌, add-zero, arith, length-append, length-drop, get_or-drop, drop-drop}
 use lib.Seq.{drop-append_seam}
 use Rattle.fields.specs.Numbers.{number_of}
-use Rattle.fields.specs.declared.number.Number.TheVariants as N
 use Rattle.samples.specs.Scan.{Ended, Written, Powered, Field, Fielded}
 use Rattle.samples.specs.declared.Found.{Found}
-use Rattle.samples.specs.declared.Power.TheVariants as P
 use Rattle.samples.proofs.Places.{next}
 use Rattle.samples.proofs.DigitScan.{below-digits}
 use Rattle.samples.proofs.PowerForm.{behind}
@@ -19,7 +18,7 @@ pub head_at : (s : List ℕ) (n x : ℕ) (q : List ℕ) → drop n s ≡ x ∷ q
 head_at s n x q e = ap (λ (k : ℕ). get_or s k 0) (sym (add-zero n)) ∙ sym (get_or-drop n s 0 0) ∙ ap (λ (l : List ℕ). get_or l 0 0) e
 
 -- what follows a power that is found
-pub then-byte : {s : List ℕ} {from : ℕ} {f : Found} (p : Powered s from (P.Of f)) (byte : ℕ) → get_or s f.to 0 ≡ byte → (p.sound f refl).rest ≡ byte ∷ drop (f.to + 1) s
+pub then-byte : {s : List ℕ} {from : ℕ} {f : Found} (p : Powered s from (Some f)) (byte : ℕ) → get_or s f.to 0 ≡ byte → (p.sound f refl).rest ≡ byte ∷ drop (f.to + 1) s
 then-byte {s} {from} {f} p byte e =
     let m = p.sound f refl in
     sym (ap (λ (k : ℕ). drop k s) m.place ∙ beyond s from m.bytes m.rest m.form) ∙ behind s f.to byte m.stands.within e
@@ -62,18 +61,18 @@ module _ {s : List ℕ} {from byte : ℕ} (low : byte ≤ 10) where
       let a = short-number h.bytes f.value h.says h.ranged in
       let b = short-number k.bytes g.value k.says k.ranged in
       let bytes : h.bytes ≡ k.bytes = no_other byte _ _ low a.solid b.solid (sym h.form ∙ k.form) in
-      let value : f.value ≡ g.value = (let e : N.Value f.value ≡ N.Value g.value = sym h.says ∙ ap number_of bytes ∙ k.says in cc) in
+      let value : f.value ≡ g.value = (let e : Some f.value ≡ Some g.value = sym h.says ∙ ap number_of bytes ∙ k.says in cc) in
       let to : f.to ≡ g.to = h.place ∙ ap (λ (l : List ℕ). from + length l) bytes ∙ sym k.place in
       λ i. record { value = value i; to = to i }
 
-  pub the_field : {f : Found} → Field s from byte f → Fielded s from byte (P.Of f)
+  pub the_field : {f : Found} → Field s from byte f → Fielded s from byte (Some f)
   the_field {f} h =
       record {
         sound = λ g e. (let k : f ≡ g = cc in rw (← k) h);
-        complete = λ {f = g} k. ap P.Of (same-field h k);
+        complete = λ {f = g} k. ap Some (same-field h k);
       }
 
-  other : ((f : Found) → Field s from byte f → ⊥) → Fielded s from byte P.None
+  other : ((f : Found) → Field s from byte f → ⊥) → Fielded s from byte None
   other never =
       record {
         sound = λ f e. absurd (let z : ◌≡◌ {A = ℕ} 0 1 = cc in (omega arith));
@@ -92,18 +91,18 @@ module _ {s : List ℕ} {from byte : ℕ} (low : byte ≤ 10) where
         ranged = h.ranged;
       }
 
-  pub no_power : Powered s from P.None → Fielded s from byte P.None
+  pub no_power : Powered s from None → Fielded s from byte None
   no_power p = other (λ f h. let e = p.complete (written-there h) in let z : ◌≡◌ {A = ℕ} 0 1 = cc in omega arith)
 
-  module _ {f : Found} (p : Powered s from (P.Of f)) where
-    pub no_end : (get_or s f.to 0 ≡ byte → ⊥) → Fielded s from byte P.None
+  module _ {f : Found} (p : Powered s from (Some f)) where
+    pub no_end : (get_or s f.to 0 ≡ byte → ⊥) → Fielded s from byte None
     no_end n =
         other (λ g h.
         let e = p.complete (written-there h) in
         let k : f ≡ record { value = g.value; to = from + length h.bytes } = cc in
         n (ap (λ (t : Found). get_or s t.to 0) k ∙ ap (λ (i : ℕ). get_or s i 0) (sym h.place) ∙ byte-there h))
 
-    pub ended-field : get_or s f.to 0 ≡ byte → Fielded s from byte (P.Of f)
+    pub ended-field : get_or s f.to 0 ≡ byte → Fielded s from byte (Some f)
     ended-field e =
         let m = p.sound f refl in
         the_field

@@ -1,12 +1,11 @@
 -- The front of a sample line as it is scanned: a setpoint that stands as on the line before, or one that is read.
+use Rattle.std.specs.Prelude.{Some, None}
 use Rattle.std.proofs.Common.{◌≡◌, ℕ, ◌+◌, ◌-◌, ◌<◌, ◌≤◌, false, eqb, List, ◌∷◌, ◌++◌, length, get_or, take, drop, sym, refl, ap, ◌∙◌, arith, length-drop, take-append-drop, length-take-le, get_or-drop, get_or-take, ext_get_or, eqb-true}
 use lib.Seq.{take-append-add, append_snoc}
 use Rattle.samples.specs.Scan.{Field, Fielded}
 use Rattle.samples.specs.Front.{packed, Packed, no_front, Kept, Same, Heads, Fronted}
 use Rattle.samples.specs.declared.Found.{Found}
-use Rattle.samples.specs.declared.Power.TheVariants as P
 use Rattle.samples.specs.declared.Front.{Front}
-use Rattle.samples.specs.declared.Start.TheVariants as S
 use Rattle.samples.proofs.FieldScan.{field-within}
 use Rattle.samples.proofs.WordLaws.{same_bytes_lem}
 
@@ -65,24 +64,24 @@ module _ {s : List ℕ} {from : ℕ} {former : Front} where
 
 -- the front of a line
 module _ {s : List ℕ} {at : ℕ} where
-  other : ((f : Front) → Heads s at f → ⊥) → Fronted s at S.Other
+  other : ((f : Front) → Heads s at f → ⊥) → Fronted s at None
   other never =
       record {
         sound = λ f e. absurd (let z : ◌≡◌ {A = ℕ} 0 1 = cc in (omega arith));
         complete = λ {f} h. absurd (never f h);
       }
 
-  pub no-letter : (get_or s at 0 ≡ 83 → ⊥) → Fronted s at S.Other
+  pub no-letter : (get_or s at 0 ≡ 83 → ⊥) → Fronted s at None
   no-letter n = other (λ f h. n h.letter)
 
-  pub no-first-tab : (get_or s (at + 1) 0 ≡ 9 → ⊥) → Fronted s at S.Other
+  pub no-first-tab : (get_or s (at + 1) 0 ≡ 9 → ⊥) → Fronted s at None
   no-first-tab n = other (λ f h. n h.first_tab)
 
-  pub no-setpoint : Fielded s (at + 2) 9 P.None → Fronted s at S.Other
+  pub no-setpoint : Fielded s (at + 2) 9 None → Fronted s at None
   no-setpoint p = other (λ f h. let e = p.complete h.field in let z : ◌≡◌ {A = ℕ} 0 1 = cc in omega arith)
 
-  pub a-front : {f : Found} → get_or s at 0 ≡ 83 → get_or s (at + 1) 0 ≡ 9 → Fielded s (at + 2) 9 (P.Of f)
-      → Fronted s at (S.Of (record { from = at + 2; setpoint = f.value; tab = f.to }))
+  pub a-front : {f : Found} → get_or s at 0 ≡ 83 → get_or s (at + 1) 0 ≡ 9 → Fielded s (at + 2) 9 (Some f)
+      → Fronted s at (Some (record { from = at + 2; setpoint = f.value; tab = f.to }))
   a-front {f} letter tab p =
       let front : Front = record { from = at + 2; setpoint = f.value; tab = f.to } in
       let heads : Heads s at front = record { letter = letter; first_tab = tab; from = refl; field = p.sound f refl } in
@@ -94,7 +93,7 @@ module _ {s : List ℕ} {at : ℕ} where
             let x : at + 2 ≡ g.from = sym h.from in
             let y : f.value ≡ g.setpoint = ap (λ (t : Found). t.value) e in
             let w : f.to ≡ g.tab = ap (λ (t : Found). t.to) e in
-            λ i. S.Of (record { from = x i; setpoint = y i; tab = w i }));
+            λ i. Some (record { from = x i; setpoint = y i; tab = w i }));
       }
 
 -- WHAT IS KEPT of a line: nothing before the first one, and then its front

@@ -1,11 +1,10 @@
 -- A line by its fields. Those of numbers in the range of powers have neither tabs nor LFs, and few bytes, so that a line of them is read as it was written.
+use Rattle.std.specs.Prelude.{Some}
 use Rattle.std.proofs.Common.{◌≡◌, ℕ, suc, ◌+◌, ◌-◌, ◌*◌, ◌<◌, ◌≤◌, Bool, true, false, cond, List, [], ◌∷◌, ◌++◌, length, ℤ, sym, refl, ap, ◌∙◌, subst, append_assoc, append-nil, arith, length-append, ne_eqb, eqb-true}
 use native.Mathlib.Decide.{ℕ_discrete}
 use Rattle.fields.specs.Fields.{fields}
 use Rattle.fields.proofs.FieldLaws.{fields-tab, fields-other, fields-none}
 use Rattle.fields.specs.Numbers.{value_from, unsigned_of, number_of}
-use Rattle.fields.specs.declared.number.Digits.TheVariants as F
-use Rattle.fields.specs.declared.number.Number.TheVariants as N
 use Rattle.lines.specs.Lines.{on_first, lines_of}
 use Rattle.lines.proofs.LineLaws.{NoLf, none, another, Written, last, ended, read_back, written}
 use Rattle.reading.specs.Line.{is_letter}
@@ -19,7 +18,7 @@ pub data Solid : List ℕ → Type 0 where
   empty : Solid []
   more : {x : ℕ} {xs : List ℕ} → 10 < x → Solid xs → Solid (x ∷ xs)
 
-solid-digits : (bytes : List ℕ) (v w : ℕ) → value_from v bytes ≡ F.Value w → Solid bytes
+solid-digits : (bytes : List ℕ) (v w : ℕ) → value_from v bytes ≡ Some w → Solid bytes
 solid-digits [] v w e = empty
 solid-digits (x ∷ xs) v w e =
     let d = is_digit_lem x (digit-of v x w xs e) in
@@ -31,10 +30,10 @@ pub record Short (bytes : List ℕ) : Type 0 where
   pub solid : Solid bytes
   pub few : length bytes ≤ 8
 
-short-unsigned : (bytes : List ℕ) (n : ℕ) → unsigned_of 9 bytes ≡ F.Value n → n ≤ 2000000 → Solid bytes × (length bytes ≤ 7)
+short-unsigned : (bytes : List ℕ) (n : ℕ) → unsigned_of 9 bytes ≡ Some n → n ≤ 2000000 → Solid bytes × (length bytes ≤ 7)
 short-unsigned bytes n e h = let p = plain_of bytes n e in (solid-digits bytes 0 n p.says, short bytes n p h)
 
-pub short-number : (bytes : List ℕ) (z : ℤ) → number_of bytes ≡ N.Value z → power_in_range z ≡ true → Short bytes
+pub short-number : (bytes : List ℕ) (z : ℤ) → number_of bytes ≡ Some z → power_in_range z ≡ true → Short bytes
 short-number [] z e r = absurd (no_number z e)
 short-number (x ∷ xs) z e r =
     elim (ℕ_discrete x 45) [

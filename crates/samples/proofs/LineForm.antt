@@ -1,15 +1,13 @@
 -- A sample line in range by its bytes, and by what the line says.
-use Rattle.std.proofs.Common.{◌≡◌, ℕ, ◌+◌, ◌-◌, ◌≤◌, Bool, true, false, cond, ◌&&◌, eqb, ltb, List, [], ◌∷◌, ◌++◌, length, drop, ℤ, sym, refl, ap, ◌∙◌, arith, length-append, le-ltb}
+use Rattle.arithmetic.specs.declared.date.Date.{Date}
+use Rattle.vocabulary.specs.declared.direction.Direction.{Direction}
+use Rattle.vocabulary.specs.declared.header.Lot.{Lot}
+use Rattle.std.specs.Prelude.{Option, Some, None}
+use Rattle.std.proofs.Common.{◌≡◌, ℕ, ◌+◌, ◌≤◌, Bool, true, false, cond, ◌&&◌, eqb, ltb, List, [], ◌∷◌, ◌++◌, length, drop, ℤ, sym, refl, ap, ◌∙◌, arith, length-append, le-ltb}
 use Rattle.vocabulary.specs.declared.sample.Sample.{Sample}
 use Rattle.fields.specs.Fields.{fields, field_at}
 use Rattle.fields.proofs.FieldLaws.{counted}
 use Rattle.fields.specs.Numbers.{long_number_of, number_of}
-use Rattle.fields.specs.declared.number.LongNumber.{LongNumber}
-use Rattle.fields.specs.declared.number.LongNumber.TheVariants as Long
-use Rattle.fields.specs.declared.number.Number.{Number}
-use Rattle.fields.specs.declared.number.Number.TheVariants as N
-use Rattle.fields.specs.declared.day.Day.{Day}
-use Rattle.fields.specs.declared.day.Day.TheVariants as D
 use Rattle.lines.specs.Lines.{lines_of}
 use Rattle.lines.proofs.LineLaws.{written}
 use Rattle.fields.specs.Day.{day_of}
@@ -18,17 +16,11 @@ use Rattle.reading.specs.Line.{header_fields, bounds_fields, setpoint_fields, co
 use Rattle.reading.specs.Line.{header_of, bounds_of, setpoint_of, contract_of, sample_of, end_of}
 use Rattle.reading.specs.declared.Kind.{Kind}
 use Rattle.reading.specs.declared.Kind.TheVariants as K
-use Rattle.reading.specs.declared.DirectionField.{DirectionField}
-use Rattle.reading.specs.declared.LotField.{LotField}
-use Rattle.reading.specs.declared.LotField.TheVariants as LF
-use Rattle.reading.specs.declared.DirectionField.TheVariants as DF
 use Rattle.reading.specs.declared.Line.{Line}
 use Rattle.reading.specs.declared.Line.TheVariants as L
 use Rattle.vocabulary.specs.Sample.{power_in_range}
 use Rattle.samples.specs.Scan.{row_of, first_of}
 use Rattle.samples.specs.declared.Row.{Row}
-use Rattle.samples.specs.declared.First.{First}
-use Rattle.samples.specs.declared.First.TheVariants as R
 use Rattle.samples.proofs.Joined.{Shorts, no_field, a-field, short-number, a-letter, joined-fields, joined-few, joined-first, one_line, line-of, by_first, by-second, leads, letter}
 
 -- S, a tab, a power, a tab, a power and an LF at a place
@@ -37,14 +29,14 @@ pub record Shape (s : List ℕ) (at : ℕ) (row : Row) : Type 0 where
   pub b : List ℕ
   pub rest : List ℕ
   pub form : drop at s ≡ 83 ∷ (9 ∷ (a ++ (9 ∷ (b ++ (10 ∷ rest)))))
-  pub setpoint : number_of a ≡ N.Value row.setpoint
-  pub actual : number_of b ≡ N.Value row.actual
+  pub setpoint : number_of a ≡ Some row.setpoint
+  pub actual : number_of b ≡ Some row.actual
   pub setpoint_ranged : power_in_range row.setpoint ≡ true
   pub actual_ranged : power_in_range row.actual ≡ true
   pub place : row.to ≡ at + 2 + length a + 1 + length b + 1
 
 -- what the line says
-module _ (a b : List ℕ) (x y : ℤ) (p : number_of a ≡ N.Value x) (q : number_of b ≡ N.Value y) (u : power_in_range x ≡ true) (v : power_in_range y ≡ true) where
+module _ (a b : List ℕ) (x y : ℤ) (p : number_of a ≡ Some x) (q : number_of b ≡ Some y) (u : power_in_range x ≡ true) (v : power_in_range y ≡ true) where
   pub sample-line : line_of (83 ∷ (9 ∷ (a ++ (9 ∷ b)))) ≡ L.Sample (record { setpoint = x; actual = y })
   unfolding line_of field_at kind_of is_letter sample_of
   sample-line =
@@ -73,7 +65,7 @@ module _ {s : List ℕ} {at : ℕ} {row : Row} (h : Shape s at row) where
   pub shape-place : at + (length (line_in h.a h.b) + 1) ≡ row.to
   shape-place = omega (arith, line-length h.a h.b h.rest, h.place)
 
-  pub shape-first : first_of at (lines_of (drop at s)) ≡ R.Of row
+  pub shape-first : first_of at (lines_of (drop at s)) ≡ Some row
   unfolding first_of
   shape-first = rw (shape-lines, shape-says, h.setpoint_ranged, h.actual_ranged, shape-place)
 
@@ -94,27 +86,27 @@ kind-letter f e =
     (by-second (is_letter 68 f) K.Header _ K.Sample (λ q. (let z : ◌≡◌ {A = ℕ} 0 1 = cc in omega arith)) e))))).0
 
 -- no other kind of line says a sample
-no_header : (d : Day) (i : Number) (l : LotField) (q : Number) (s : Sample) → header_fields d i l q ≡ L.Sample s → ⊥
-no_header (D.Of d) (N.Value i) (LF.Of l) (N.Value q) s e = let z : ◌≡◌ {A = ℕ} 0 1 = cc in omega arith
-no_header (D.Of d) (N.Value i) (LF.Of l) N.Malformed s e = let z : ◌≡◌ {A = ℕ} 0 1 = cc in omega arith
-no_header (D.Of d) (N.Value i) LF.Malformed q s e = let z : ◌≡◌ {A = ℕ} 0 1 = cc in omega arith
-no_header (D.Of d) N.Malformed l q s e = let z : ◌≡◌ {A = ℕ} 0 1 = cc in omega arith
-no_header D.Malformed i l q s e = let z : ◌≡◌ {A = ℕ} 0 1 = cc in omega arith
+no_header : (d : Option Date) (i : Option ℤ) (l : Option Lot) (q : Option ℤ) (s : Sample) → header_fields d i l q ≡ L.Sample s → ⊥
+no_header (Some d) (Some i) (Some l) (Some q) s e = let z : ◌≡◌ {A = ℕ} 0 1 = cc in omega arith
+no_header (Some d) (Some i) (Some l) None s e = let z : ◌≡◌ {A = ℕ} 0 1 = cc in omega arith
+no_header (Some d) (Some i) None q s e = let z : ◌≡◌ {A = ℕ} 0 1 = cc in omega arith
+no_header (Some d) None l q s e = let z : ◌≡◌ {A = ℕ} 0 1 = cc in omega arith
+no_header None i l q s e = let z : ◌≡◌ {A = ℕ} 0 1 = cc in omega arith
 
-no-bounds : (o u : LongNumber) (s : Sample) → bounds_fields o u ≡ L.Sample s → ⊥
-no-bounds (Long.Value o) (Long.Value u) s e = let z : ◌≡◌ {A = ℕ} 0 1 = cc in omega arith
-no-bounds (Long.Value o) Long.Malformed s e = let z : ◌≡◌ {A = ℕ} 0 1 = cc in omega arith
-no-bounds Long.Malformed u s e = let z : ◌≡◌ {A = ℕ} 0 1 = cc in omega arith
+no-bounds : (o u : Option ℤ) (s : Sample) → bounds_fields o u ≡ L.Sample s → ⊥
+no-bounds (Some o) (Some u) s e = let z : ◌≡◌ {A = ℕ} 0 1 = cc in omega arith
+no-bounds (Some o) None s e = let z : ◌≡◌ {A = ℕ} 0 1 = cc in omega arith
+no-bounds None u s e = let z : ◌≡◌ {A = ℕ} 0 1 = cc in omega arith
 
-no-setpoint : (b : Number) (s : Sample) → setpoint_fields b ≡ L.Sample s → ⊥
-no-setpoint (N.Value b) s e = let z : ◌≡◌ {A = ℕ} 0 1 = cc in omega arith
-no-setpoint N.Malformed s e = let z : ◌≡◌ {A = ℕ} 0 1 = cc in omega arith
+no-setpoint : (b : Option ℤ) (s : Sample) → setpoint_fields b ≡ L.Sample s → ⊥
+no-setpoint (Some b) s e = let z : ◌≡◌ {A = ℕ} 0 1 = cc in omega arith
+no-setpoint None s e = let z : ◌≡◌ {A = ℕ} 0 1 = cc in omega arith
 
-no-contract : (d : DirectionField) (a p : Number) (s : Sample) → contract_fields d a p ≡ L.Sample s → ⊥
-no-contract (DF.Of d) (N.Value a) (N.Value p) s e = let z : ◌≡◌ {A = ℕ} 0 1 = cc in omega arith
-no-contract (DF.Of d) (N.Value a) N.Malformed s e = let z : ◌≡◌ {A = ℕ} 0 1 = cc in omega arith
-no-contract (DF.Of d) N.Malformed p s e = let z : ◌≡◌ {A = ℕ} 0 1 = cc in omega arith
-no-contract DF.Malformed a p s e = let z : ◌≡◌ {A = ℕ} 0 1 = cc in omega arith
+no-contract : (d : Option Direction) (a p : Option ℤ) (s : Sample) → contract_fields d a p ≡ L.Sample s → ⊥
+no-contract (Some d) (Some a) (Some p) s e = let z : ◌≡◌ {A = ℕ} 0 1 = cc in omega arith
+no-contract (Some d) (Some a) None s e = let z : ◌≡◌ {A = ℕ} 0 1 = cc in omega arith
+no-contract (Some d) None p s e = let z : ◌≡◌ {A = ℕ} 0 1 = cc in omega arith
+no-contract None a p s e = let z : ◌≡◌ {A = ℕ} 0 1 = cc in omega arith
 
 malformed-none : (s : Sample) → L.Malformed ≡ L.Sample s → ⊥
 malformed-none s e = let z : ◌≡◌ {A = ℕ} 0 1 = cc in omega arith
@@ -122,12 +114,12 @@ malformed-none s e = let z : ◌≡◌ {A = ℕ} 0 1 = cc in omega arith
 of_fields : (b : Bool) (l : Line) (s : Sample) → cond b l L.Malformed ≡ L.Sample s → (b ≡ true) × (l ≡ L.Sample s)
 of_fields b l s e = by_first b l L.Malformed (L.Sample s) (malformed-none s) e
 
-two : (x y : Number) (s : Sample) → sample_fields x y ≡ L.Sample s → (x ≡ N.Value s.setpoint) × (y ≡ N.Value s.actual)
-two (N.Value x) (N.Value y) s e =
+two : (x y : Option ℤ) (s : Sample) → sample_fields x y ≡ L.Sample s → (x ≡ Some s.setpoint) × (y ≡ Some s.actual)
+two (Some x) (Some y) s e =
     let q : ◌≡◌ {A = Sample} (record { setpoint = x; actual = y }) s = cc in
-    (ap (λ (t : Sample). N.Value t.setpoint) q, ap (λ (t : Sample). N.Value t.actual) q)
-two (N.Value x) N.Malformed s e = absurd (let z : ◌≡◌ {A = ℕ} 0 1 = cc in (omega arith))
-two N.Malformed y s e = absurd (let z : ◌≡◌ {A = ℕ} 0 1 = cc in (omega arith))
+    (ap (λ (t : Sample). Some t.setpoint) q, ap (λ (t : Sample). Some t.actual) q)
+two (Some x) None s e = absurd (let z : ◌≡◌ {A = ℕ} 0 1 = cc in (omega arith))
+two None y s e = absurd (let z : ◌≡◌ {A = ℕ} 0 1 = cc in (omega arith))
 
 by-kind : (k : Kind) (fs : List (List ℕ)) (s : Sample) → by_kind k fs ≡ L.Sample s → (k ≡ K.Sample) × (sample_of fs ≡ L.Sample s)
 unfolding header_of bounds_of setpoint_of contract_of end_of
@@ -151,8 +143,8 @@ record Said (line : List ℕ) (s : Sample) : Type 0 where
   a : List ℕ
   b : List ℕ
   form : line ≡ 83 ∷ (9 ∷ (a ++ (9 ∷ b)))
-  setpoint : number_of a ≡ N.Value s.setpoint
-  actual : number_of b ≡ N.Value s.actual
+  setpoint : number_of a ≡ Some s.setpoint
+  actual : number_of b ≡ Some s.actual
 
 said : (line : List ℕ) (s : Sample) → line_of line ≡ L.Sample s → Said line s
 unfolding line_of sample_of
@@ -172,12 +164,12 @@ record Ranged (to : ℕ) (l : Line) (row : Row) : Type 0 where
   actual : power_in_range sample.actual ≡ true
 
 in-range : (to : ℕ) (s : Sample) (row : Row) (b c : Bool) → power_in_range s.setpoint ≡ b → power_in_range s.actual ≡ c
-    → cond (b && c) (R.Of (record { setpoint = s.setpoint; actual = s.actual; to = to })) R.Other ≡ R.Of row → Ranged to (L.Sample s) row
+    → cond (b && c) (Some (record { setpoint = s.setpoint; actual = s.actual; to = to })) None ≡ Some row → Ranged to (L.Sample s) row
 in-range to s row true true p q e = record { sample = s; says = refl; is = cc; setpoint = p; actual = q }
 in-range to s row true false p q e = absurd (let z : ◌≡◌ {A = ℕ} 0 1 = cc in (omega arith))
 in-range to s row false c p q e = absurd (let z : ◌≡◌ {A = ℕ} 0 1 = cc in (omega arith))
 
-ranged : (to : ℕ) (l : Line) (row : Row) → row_of to l ≡ R.Of row → Ranged to l row
+ranged : (to : ℕ) (l : Line) (row : Row) → row_of to l ≡ Some row → Ranged to l row
 ranged to (L.Sample s) row e = in-range to s row _ _ refl refl e
 ranged to (L.Header h) row e = absurd (let z : ◌≡◌ {A = ℕ} 0 1 = cc in (omega arith))
 ranged to (L.Bounds bounds) row e = absurd (let z : ◌≡◌ {A = ℕ} 0 1 = cc in (omega arith))
@@ -186,7 +178,7 @@ ranged to (L.Contract c) row e = absurd (let z : ◌≡◌ {A = ℕ} 0 1 = cc in
 ranged to L.End row e = absurd (let z : ◌≡◌ {A = ℕ} 0 1 = cc in (omega arith))
 ranged to L.Malformed row e = absurd (let z : ◌≡◌ {A = ℕ} 0 1 = cc in (omega arith))
 
-shaped : (s : List ℕ) (at : ℕ) (row : Row) (ls : List (List ℕ)) → lines_of (drop at s) ≡ ls → first_of at ls ≡ R.Of row → Shape s at row
+shaped : (s : List ℕ) (at : ℕ) (row : Row) (ls : List (List ℕ)) → lines_of (drop at s) ≡ ls → first_of at ls ≡ Some row → Shape s at row
 unfolding first_of
 shaped s at row [] q e = absurd (let z : ◌≡◌ {A = ℕ} 0 1 = cc in (omega arith))
 shaped s at row (line ∷ lines) q e =
@@ -199,19 +191,19 @@ shaped s at row (line ∷ lines) q e =
       b = w.b;
       rest = p.rest;
       form = p.form ∙ ap (λ (l : List ℕ). l ++ (10 ∷ p.rest)) w.form ∙ sym (one_line (83 ∷ []) (w.a ∷ (w.b ∷ [])) (10 ∷ p.rest));
-      setpoint = w.setpoint ∙ ap (λ (t : Row). N.Value t.setpoint) (sym r.is);
-      actual = w.actual ∙ ap (λ (t : Row). N.Value t.actual) (sym r.is);
+      setpoint = w.setpoint ∙ ap (λ (t : Row). Some t.setpoint) (sym r.is);
+      actual = w.actual ∙ ap (λ (t : Row). Some t.actual) (sym r.is);
       setpoint_ranged = ap (λ (t : Row). power_in_range t.setpoint) r.is ∙ r.setpoint;
       actual_ranged = ap (λ (t : Row). power_in_range t.actual) r.is ∙ r.actual;
       place = omega (arith, line-length w.a w.b p.rest, ap length w.form);
     }
 
-pub first-shape : (s : List ℕ) (at : ℕ) (row : Row) → first_of at (lines_of (drop at s)) ≡ R.Of row → Shape s at row
+pub first-shape : (s : List ℕ) (at : ℕ) (row : Row) → first_of at (lines_of (drop at s)) ≡ Some row → Shape s at row
 first-shape s at row e = shaped s at row (lines_of (drop at s)) refl e
 
-pub no-shape : (s : List ℕ) (at : ℕ) → ((row : Row) → Shape s at row → ⊥) → R.Other ≡ first_of at (lines_of (drop at s))
+pub no-shape : (s : List ℕ) (at : ℕ) → ((row : Row) → Shape s at row → ⊥) → None ≡ first_of at (lines_of (drop at s))
 no-shape s at never = by_cases (first_of at (lines_of (drop at s))) refl
   where
-    by_cases : (f : First) → first_of at (lines_of (drop at s)) ≡ f → R.Other ≡ first_of at (lines_of (drop at s))
-    by_cases (R.Of row) e = absurd (never row (first-shape s at row e))
-    by_cases R.Other e = sym e
+    by_cases : (f : Option Row) → first_of at (lines_of (drop at s)) ≡ f → None ≡ first_of at (lines_of (drop at s))
+    by_cases (Some row) e = absurd (never row (first-shape s at row e))
+    by_cases None e = sym e

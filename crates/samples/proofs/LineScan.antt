@@ -1,17 +1,16 @@
 -- A line as it is scanned: each test that fails shows that no sample in range stands there.
-use Rattle.std.proofs.Common.{◌≡◌, ℕ, ◌+◌, ◌<◌, ◌≤◌, List, [], ◌∷◌, length, get_or, drop, sym, refl, ap, ◌∙◌, arith}
+use Rattle.std.specs.Prelude.{Option, Some, None}
+use Rattle.std.proofs.Common.{◌≡◌, ℕ, ◌+◌, ◌<◌, ◌≤◌, List, [], ◌∷◌, length, get_or, drop, sym, refl, ap, ◌∙◌, arith, drop_of_length-le}
 use Rattle.lines.specs.Lines.{lines_of}
 use Rattle.samples.specs.Scan.{Ended, Closed, Pair, Paired, first_of}
-use Rattle.samples.specs.Front.{Heads, Fronted}
+use Rattle.samples.specs.Front.{Heads, Fronted, Sampled}
 use Rattle.samples.specs.declared.Row.{Row}
-use Rattle.samples.specs.declared.First.{First}
-use Rattle.samples.specs.declared.First.TheVariants as R
 use Rattle.samples.specs.declared.Front.{Front}
-use Rattle.samples.specs.declared.Start.TheVariants as S
+use Rattle.samples.proofs.CutLaws.{no_lines_lem}
 use Rattle.samples.proofs.Places.{next}
 use Rattle.samples.proofs.PowerForm.{behind}
 use Rattle.samples.proofs.FieldScan.{beyond, head_at}
-use Rattle.samples.proofs.PairScan.{from_next as after-pair, pair-within, pair-setpoint, by_row}
+use Rattle.samples.proofs.PairScan.{from_next as after-pair, pair-setpoint, by_row}
 use Rattle.samples.proofs.LineForm.{Shape, shape-first, no-shape}
 
 -- a letter and a tab, and what follows them
@@ -61,22 +60,21 @@ module _ {s : List ℕ} {at : ℕ} {row : Row} (h : Shape s at row) where
   unfolding pair-in
   from_next = after-pair pair-in
 
--- what the line that starts at a place is, and that it ends within the bytes
-pub record Began (s : List ℕ) (at : ℕ) (r : First) : Type 0 where
+-- what the line that starts at a place is
+pub record Began (s : List ℕ) (at : ℕ) (r : Option Row) : Type 0 where
   pub is : r ≡ first_of at (lines_of (drop at s))
-  pub within : (row : Row) → r ≡ R.Of row → row.to ≤ length s
 
 module _ {s : List ℕ} {at : ℕ} where
-  other : ((row : Row) → Shape s at row → ⊥) → Began s at R.Other
-  other never = record { is = no-shape s at never; within = λ row e. absurd (let z : ◌≡◌ {A = ℕ} 0 1 = cc in (omega arith)) }
+  other : ((row : Row) → Shape s at row → ⊥) → Began s at None
+  other never = record { is = no-shape s at never }
 
-  pub no_front_lem : Fronted s at S.Other → Began s at R.Other
+  pub no_front_lem : Fronted s at None → Began s at None
   no_front_lem p = other (λ row h. let e = p.complete (heads-in h) in let z : ◌≡◌ {A = ℕ} 0 1 = cc in omega arith)
 
   -- after S and a tab, what the two powers are, or are not
-  by-pair : at + 1 < length s → get_or s at 0 ≡ 83 → get_or s (at + 1) 0 ≡ 9 → (r : First) → Paired s (at + 2) r → Began s at r
-  by-pair l letter tab R.Other p = other (λ row h. let e = p.complete (pair-in h) in let z : ◌≡◌ {A = ℕ} 0 1 = cc in omega arith)
-  by-pair l letter tab (R.Of row) p =
+  by-pair : at + 1 < length s → get_or s at 0 ≡ 83 → get_or s (at + 1) 0 ≡ 9 → (r : Option Row) → Paired s (at + 2) r → Began s at r
+  by-pair l letter tab None p = other (λ row h. let e = p.complete (pair-in h) in let z : ◌≡◌ {A = ℕ} 0 1 = cc in omega arith)
+  by-pair l letter tab (Some row) p =
       let m = p.sound row refl in
       let shape : Shape s at row =
       record {
@@ -90,10 +88,27 @@ module _ {s : List ℕ} {at : ℕ} where
         actual_ranged = m.actual_ranged;
         place = m.place;
       } in
+      record { is = sym (shape-first shape) }
+
+  pub by_front : {front : Front} → Ended s at → Heads s at front → {r : Option Row} → Closed s front.tab front.setpoint r → Began s at r
+  by_front e h {r} q = by-pair (next e (λ k. let l = h.letter in (omega arith))).within h.letter h.first_tab r (by_row h.field q)
+
+-- what is said of a line, with its front
+module _ {s : List ℕ} {at : ℕ} where
+  pub no-sample : Began s at None → Sampled s at None
+  no-sample b =
       record {
-        is = sym (shape-first shape);
-        within = λ r e. (let z : row.to ≡ r.to = (let k : row ≡ r = cc in ap (λ (t : Row). t.to) k) in omega (arith, pair-within m));
+        is = sym b.is;
+        front = λ f row e. absurd (let z : ◌≡◌ {A = ℕ} 0 1 = cc in (omega arith));
       }
 
-  pub by_front : {front : Front} → Ended s at → Heads s at front → {r : First} → Closed s front.tab front.setpoint r → Began s at r
-  by_front e h {r} q = by-pair (next e (λ k. let l = h.letter in (omega arith))).within h.letter h.first_tab r (by_row h.field q)
+  pub a-sample : {f : Front} {row : Row} → Heads s at f → Began s at (Some row) → Sampled s at (Some (f, row))
+  a-sample {f} {row} h b =
+      record {
+        is = sym b.is;
+        front = λ g r e. (let p : ◌≡◌ {A = Front × Row} (f, row) (g, r) = cc in let k : f ≡ g = ap (λ (q : Front × Row). q.0) p in rw (← k) h);
+      }
+
+  pub past-lines : length s ≤ at → Sampled s at None
+  unfolding first_of
+  past-lines h = no-sample (record { is = rw (drop_of_length-le s h, no_lines_lem) })

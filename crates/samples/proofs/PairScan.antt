@@ -1,11 +1,9 @@
 -- Two powers as they are scanned: a setpoint before a tab, and then an actual before an LF, or no two in range stand there.
+use Rattle.std.specs.Prelude.{Option, Some, None}
 use Rattle.std.proofs.Common.{◌≡◌, ℕ, ◌+◌, ◌≤◌, List, [], ◌∷◌, ◌++◌, length, drop, ℤ, sym, refl, ap, ◌∙◌, arith, length-append, length-drop}
 use Rattle.samples.specs.Scan.{Field, Fielded, Closes, Closed, Pair, Paired}
 use Rattle.samples.specs.declared.Found.{Found}
-use Rattle.samples.specs.declared.Power.TheVariants as P
 use Rattle.samples.specs.declared.Row.{Row}
-use Rattle.samples.specs.declared.First.{First}
-use Rattle.samples.specs.declared.First.TheVariants as R
 use Rattle.samples.proofs.FieldScan.{beyond, after-field, same-field}
 
 -- what stands where
@@ -56,14 +54,14 @@ module _ {s : List ℕ} {from : ℕ} {row : Row} (h : Pair s from row) where
 
 -- the row of a setpoint
 module _ {s : List ℕ} {tab : ℕ} {z : ℤ} where
-  pub no-actual : Fielded s (tab + 1) 10 P.None → Closed s tab z R.Other
+  pub no-actual : Fielded s (tab + 1) 10 None → Closed s tab z None
   no-actual p =
       record {
         sound = λ row e. absurd (let q : ◌≡◌ {A = ℕ} 0 1 = cc in (omega arith));
         complete = λ {row} h. absurd (let e = p.complete h.actual in let q : ◌≡◌ {A = ℕ} 0 1 = cc in (omega arith));
       }
 
-  pub a-row : {f : Found} → Fielded s (tab + 1) 10 (P.Of f) → Closed s tab z (R.Of (record { setpoint = z; actual = f.value; to = f.to + 1 }))
+  pub a-row : {f : Found} → Fielded s (tab + 1) 10 (Some f) → Closed s tab z (Some (record { setpoint = z; actual = f.value; to = f.to + 1 }))
   a-row {f} p =
       let row : Row = record { setpoint = z; actual = f.value; to = f.to + 1 } in
       let closes : Closes s tab z row = record { end = f.to; setpoint = refl; actual = p.sound f refl; place = refl } in
@@ -75,12 +73,12 @@ module _ {s : List ℕ} {tab : ℕ} {z : ℤ} where
             let x : z ≡ r.setpoint = sym h.setpoint in
             let y : f.value ≡ r.actual = ap (λ (t : Found). t.value) e in
             let w : f.to + 1 ≡ r.to = ap (λ (t : Found). t.to + 1) e ∙ sym h.place in
-            λ i. R.Of (record { setpoint = x i; actual = y i; to = w i }));
+            λ i. Some (record { setpoint = x i; actual = y i; to = w i }));
       }
 
 -- and with it the two powers
 module _ {s : List ℕ} {from : ℕ} where
-  pub no-setpoint : Fielded s from 9 P.None → Paired s from R.Other
+  pub no-setpoint : Fielded s from 9 None → Paired s from None
   no-setpoint p =
       record {
         sound = λ row e. absurd (let z : ◌≡◌ {A = ℕ} 0 1 = cc in (omega arith));
@@ -102,7 +100,7 @@ module _ {s : List ℕ} {from : ℕ} where
           place = omega (arith, m.place, m.actual.place, h.place);
         }
 
-    pub by_row : {r : First} → Closed s f.to f.value r → Paired s from r
+    pub by_row : {r : Option Row} → Closed s f.to f.value r → Paired s from r
     by_row q =
         record {
           sound = λ row e. paired (q.sound row e);

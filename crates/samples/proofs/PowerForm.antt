@@ -1,18 +1,14 @@
 -- A power, from the number of no sign that is found there, or after its minus.
+use Rattle.std.specs.Prelude.{Option, Some, None}
 use Rattle.std.proofs.Common.{◌≡◌, ℕ, zero, suc, ◌+◌, ◌-◌, ◌<◌, ◌≤◌, Bool, true, false, ◌&&◌, List, [], ◌∷◌, ◌++◌, length, get_or, drop, ℤ, pos, negsuc, ◌-ℤ◌, neg_ℤ, sym, refl, ap, ◌∙◌, add-one, arith, drop-cons, to_z-of_z, w32, SFits, to_z, of_z, eq-eqb, ne_eqb, le-leb, leb-true}
 use lib.IntN.{+ℤ_idl}
 use mir.Facts.{to_z_pos}
 use Rattle.arithmetic.specs.Whole.{within_of}
-use Rattle.fields.specs.Numbers.{unsigned_of, negative, plain, long_number_of, shortened, number_of}
-use Rattle.fields.specs.declared.number.Digits.{Digits as Said}
-use Rattle.fields.specs.declared.number.Digits.TheVariants as F
-use Rattle.fields.specs.declared.number.Number.TheVariants as N
+use Rattle.fields.specs.Numbers.{unsigned_of, negative, plain, long_number_of, number_of}
 use Rattle.vocabulary.specs.Sample.{power_in_range}
 use Rattle.samples.specs.Scan.{Standing, Unsigned, Names, Written, Powered}
 use Rattle.samples.specs.declared.Digits.{Digits}
-use Rattle.samples.specs.declared.Whole.TheVariants as W
 use Rattle.samples.specs.declared.Found.{Found}
-use Rattle.samples.specs.declared.Power.TheVariants as P
 use Rattle.samples.proofs.UnsignedForm.{plain_of, at_first_lem}
 
 -- the range, by the magnitude
@@ -38,38 +34,38 @@ neg-range n h = rw (le-leb _ _ h)
 
 -- a number by its first byte
 module _ (x : ℕ) (xs : List ℕ) where
-  pub number-plain : (x ≡ 45 → ⊥) → number_of (x ∷ xs) ≡ shortened (plain (unsigned_of 9 (x ∷ xs)))
+  pub number-plain : (x ≡ 45 → ⊥) → number_of (x ∷ xs) ≡ plain (unsigned_of 9 (x ∷ xs))
   unfolding number_of long_number_of
   number-plain n = rw (ne_eqb x 45 n)
 
-  pub number-minus : x ≡ 45 → number_of (x ∷ xs) ≡ shortened (negative (unsigned_of 9 xs))
+  pub number-minus : x ≡ 45 → number_of (x ∷ xs) ≡ negative (unsigned_of 9 xs)
   unfolding number_of long_number_of
   number-minus e = rw (eq-eqb x 45 e)
 
-pub no_number : (z : ℤ) → number_of [] ≡ N.Value z → ⊥
+pub no_number : (z : ℤ) → number_of [] ≡ Some z → ⊥
 unfolding number_of long_number_of
 no_number z e = let q : ◌≡◌ {A = ℕ} 0 1 = cc in omega arith
 
-pub record Above (d : Said) (z : ℤ) : Type 0 where
+pub record Above (d : Option ℕ) (z : ℤ) : Type 0 where
   pub n : ℕ
-  pub says : d ≡ F.Value n
+  pub says : d ≡ Some n
   pub is : z ≡ pos n
 
-pub above : (d : Said) (z : ℤ) → shortened (plain d) ≡ N.Value z → Above d z
-above (F.Value n) z e = record { n = n; says = refl; is = cc }
-above F.Other z e = absurd (let q : ◌≡◌ {A = ℕ} 0 1 = cc in (omega arith))
+pub above : (d : Option ℕ) (z : ℤ) → plain d ≡ Some z → Above d z
+above (Some n) z e = record { n = n; says = refl; is = cc }
+above None z e = absurd (let q : ◌≡◌ {A = ℕ} 0 1 = cc in (omega arith))
 
-pub record Below (d : Said) (z : ℤ) : Type 0 where
+pub record Below (d : Option ℕ) (z : ℤ) : Type 0 where
   pub n : ℕ
-  pub says : d ≡ F.Value (suc n)
+  pub says : d ≡ Some (suc n)
   pub is : z ≡ negsuc n
 
-pub below : (d : Said) (z : ℤ) → shortened (negative d) ≡ N.Value z → Below d z
-below (F.Value zero) z e = absurd (let q : ◌≡◌ {A = ℕ} 0 1 = cc in (omega arith))
-below (F.Value (suc n)) z e = record { n = n; says = refl; is = cc }
-below F.Other z e = absurd (let q : ◌≡◌ {A = ℕ} 0 1 = cc in (omega arith))
+pub below : (d : Option ℕ) (z : ℤ) → negative d ≡ Some z → Below d z
+below (Some zero) z e = absurd (let q : ◌≡◌ {A = ℕ} 0 1 = cc in (omega arith))
+below (Some (suc n)) z e = record { n = n; says = refl; is = cc }
+below None z e = absurd (let q : ◌≡◌ {A = ℕ} 0 1 = cc in (omega arith))
 
-says_plain : (bytes : List ℕ) (n : ℕ) → (get_or bytes 0 0 ≡ 45 → ⊥) → unsigned_of 9 bytes ≡ F.Value n → number_of bytes ≡ N.Value (pos n)
+says_plain : (bytes : List ℕ) (n : ℕ) → (get_or bytes 0 0 ≡ 45 → ⊥) → unsigned_of 9 bytes ≡ Some n → number_of bytes ≡ Some (pos n)
 says_plain [] n first e = absurd ((plain_of [] n e).some refl)
 says_plain (x ∷ xs) n first e = number-plain x xs first ∙ rw e
 
@@ -105,14 +101,14 @@ module _ {s : List ℕ} {from : ℕ} (other : get_or s from 0 ≡ 45 → ⊥) wh
   same : {z : ℤ} (a : Written s from z) → Same z a
   same {z} a = stood z a a.bytes refl
 
-  pub plain-none : Unsigned s from W.None → Powered s from P.None
+  pub plain-none : Unsigned s from None → Powered s from None
   plain-none u =
       record {
         sound = λ f e. absurd (let q : ◌≡◌ {A = ℕ} 0 1 = cc in (omega arith));
         complete = λ {z} a. absurd (let e = u.complete (same a).stands in let q : ◌≡◌ {A = ℕ} 0 1 = cc in (omega arith));
       }
 
-  pub plain-some : {d : Digits} {v : ℤ} → v ≡ pos d.value → Unsigned s from (W.Of d) → Powered s from (P.Of (record { value = v; to = d.to }))
+  pub plain-some : {d : Digits} {v : ℤ} → v ≡ pos d.value → Unsigned s from (Some d) → Powered s from (Some (record { value = v; to = d.to }))
   plain-some {d} {v} e u =
       let sp = u.sound d refl in
       let first : (get_or sp.bytes 0 0 ≡ 45 → ⊥) = λ k. other (at_first_lem s from sp.bytes sp.rest sp.form (plain_of sp.bytes d.value sp.says).some ∙ k) in
@@ -121,7 +117,7 @@ module _ {s : List ℕ} {from : ℕ} (other : get_or s from 0 ≡ 45 → ⊥) wh
         bytes = sp.bytes;
         rest = sp.rest;
         form = sp.form;
-        says = says_plain sp.bytes d.value first sp.says ∙ ap N.Value (sym e);
+        says = says_plain sp.bytes d.value first sp.says ∙ ap Some (sym e);
         ranged = ap power_in_range e ∙ pos-range d.value sp.small;
         place = sp.place;
         stands = sp.stands;
@@ -164,24 +160,24 @@ module _ {s : List ℕ} {from : ℕ} (within : from < length s) (sign : get_or s
   after : {z : ℤ} (a : Written s from z) → Behind z a
   after {z} a = stood-behind z a a.bytes refl
 
-  pub minus-none : Unsigned s (from + 1) W.None → Powered s from P.None
+  pub minus-none : Unsigned s (from + 1) None → Powered s from None
   minus-none u =
       record {
         sound = λ f e. absurd (let q : ◌≡◌ {A = ℕ} 0 1 = cc in (omega arith));
         complete = λ {z} a. absurd (let e = u.complete (after a).stands in let q : ◌≡◌ {A = ℕ} 0 1 = cc in (omega arith));
       }
 
-  value-behind : {d : Digits} {z : ℤ} → Unsigned s (from + 1) (W.Of d) → (a : Written s from z) → d ≡ record { value = suc (after a).n; to = from + 1 + length (after a).stands.bytes }
+  value-behind : {d : Digits} {z : ℤ} → Unsigned s (from + 1) (Some d) → (a : Written s from z) → d ≡ record { value = suc (after a).n; to = from + 1 + length (after a).stands.bytes }
   value-behind u a = let k = u.complete (after a).stands in cc
 
-  pub minus-zero : {d : Digits} → d.value ≡ 0 → Unsigned s (from + 1) (W.Of d) → Powered s from P.None
+  pub minus-zero : {d : Digits} → d.value ≡ 0 → Unsigned s (from + 1) (Some d) → Powered s from None
   minus-zero {d} h u =
       record {
         sound = λ f e. absurd (let q : ◌≡◌ {A = ℕ} 0 1 = cc in (omega arith));
         complete = λ {z} a. absurd (let q : d.value ≡ suc (after a).n = ap (λ (t : Digits). t.value) (value-behind u a) in (omega arith));
       }
 
-  pub minus-some : {d : Digits} {v : ℤ} (n : ℕ) → d.value ≡ suc n → v ≡ negsuc n → Unsigned s (from + 1) (W.Of d) → Powered s from (P.Of (record { value = v; to = d.to }))
+  pub minus-some : {d : Digits} {v : ℤ} (n : ℕ) → d.value ≡ suc n → v ≡ negsuc n → Unsigned s (from + 1) (Some d) → Powered s from (Some (record { value = v; to = d.to }))
   minus-some {d} {v} n h e u =
       let sp = u.sound d refl in
       let names : Names s from (record { value = v; to = d.to }) =

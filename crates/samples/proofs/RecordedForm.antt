@@ -1,12 +1,11 @@
 -- The line of a recorded sample in range by its bytes, and by what the line says.
+use Rattle.std.specs.Prelude.{ℤ, Option, Some, None}
 use Rattle.std.proofs.Common.{◌≡◌, ℕ, ◌+◌, ◌≤◌, Bool, true, false, cond, ◌&&◌, eqb, ltb, List, [], ◌∷◌, ◌++◌, length, drop, sym, refl, ap, ◌∙◌, arith, length-append, le-ltb}
 use Rattle.vocabulary.specs.Sample.{power_in_range}
 use Rattle.vocabulary.specs.declared.recorded.Recorded.{Recorded}
 use Rattle.fields.specs.Fields.{fields, field_at}
 use Rattle.fields.proofs.FieldLaws.{counted}
 use Rattle.fields.specs.Numbers.{number_of}
-use Rattle.fields.specs.declared.number.Number.{Number}
-use Rattle.fields.specs.declared.number.Number.TheVariants as N
 use Rattle.lines.specs.Lines.{lines_of}
 use Rattle.lines.proofs.LineLaws.{written}
 use Rattle.reading.specs.Line.{is_letter, header_of, end_of}
@@ -19,8 +18,6 @@ use Rattle.reading.specs.declared.entry.EntryKind.{EntryKind}
 use Rattle.reading.specs.declared.entry.EntryKind.TheVariants as K
 use Rattle.samples.specs.Recorded.{recorded_by, first_recorded}
 use Rattle.samples.specs.declared.recorded.RecordedLine.{RecordedLine}
-use Rattle.samples.specs.declared.recorded.FirstRecorded.{FirstRecorded}
-use Rattle.samples.specs.declared.recorded.FirstRecorded.TheVariants as R
 use Rattle.samples.proofs.Joined.{Shorts, no_field, a-field, short-number, a-letter, joined, spread, joined-fields}
 use Rattle.samples.proofs.Joined.{joined-few, joined-first, one_line, line-of, by_first, by-second, leads, letter}
 
@@ -34,9 +31,9 @@ pub record Noted (s : List ℕ) (at : ℕ) (e : RecordedLine) : Type 0 where
   pub b : List ℕ
   pub rest : List ℕ
   pub form : drop at s ≡ spread (71 ∷ []) (c ∷ (a ∷ (b ∷ []))) (10 ∷ rest)
-  pub second : number_of c ≡ N.Value e.recorded.second
-  pub setpoint : number_of a ≡ N.Value e.recorded.sample.setpoint
-  pub actual : number_of b ≡ N.Value e.recorded.sample.actual
+  pub second : number_of c ≡ Some e.recorded.second
+  pub setpoint : number_of a ≡ Some e.recorded.sample.setpoint
+  pub actual : number_of b ≡ Some e.recorded.sample.actual
   pub second-ranged : power_in_range e.recorded.second ≡ true
   pub setpoint_ranged : power_in_range e.recorded.sample.setpoint ≡ true
   pub actual_ranged : power_in_range e.recorded.sample.actual ≡ true
@@ -63,7 +60,7 @@ module _ {s : List ℕ} {at : ℕ} {e : RecordedLine} (h : Noted s at e) where
   noted-place : at + (length (recorded_in h.c h.a h.b) + 1) ≡ e.to
   noted-place = omega (arith, recorded-length h.c h.a h.b, h.place)
 
-  pub noted-first : first_recorded at (lines_of (drop at s)) ≡ R.Of e
+  pub noted-first : first_recorded at (lines_of (drop at s)) ≡ Some e
   unfolding first_recorded
   noted-first = rw (noted-lines, noted-says, h.second-ranged, h.setpoint_ranged, h.actual_ranged, noted-place)
 
@@ -95,22 +92,22 @@ kind-letter : (f : List ℕ) → entry_kind_of f ≡ K.Recorded → f ≡ 71 ∷
 unfolding entry_kind_of
 kind-letter f e = letter f 71 (by_first (is_letter 71 f) K.Recorded _ K.Recorded (other-kind (is_letter 68 f) (is_letter 69 f)) e).0
 
-record Three (x y z : Number) (r : Recorded) : Type 0 where
-  second : x ≡ N.Value r.second
-  setpoint : y ≡ N.Value r.sample.setpoint
-  actual : z ≡ N.Value r.sample.actual
+record Three (x y z : Option ℤ) (r : Recorded) : Type 0 where
+  second : x ≡ Some r.second
+  setpoint : y ≡ Some r.sample.setpoint
+  actual : z ≡ Some r.sample.actual
 
-three : (x y z : Number) (r : Recorded) → recorded_fields x y z ≡ E.Recorded r → Three x y z r
-three (N.Value x) (N.Value y) (N.Value z) r e =
+three : (x y z : Option ℤ) (r : Recorded) → recorded_fields x y z ≡ E.Recorded r → Three x y z r
+three (Some x) (Some y) (Some z) r e =
     let q : ◌≡◌ {A = Recorded} (record { second = x; sample = record { setpoint = y; actual = z } }) r = cc in
     record {
-      second = ap (λ (t : Recorded). N.Value t.second) q;
-      setpoint = ap (λ (t : Recorded). N.Value t.sample.setpoint) q;
-      actual = ap (λ (t : Recorded). N.Value t.sample.actual) q;
+      second = ap (λ (t : Recorded). Some t.second) q;
+      setpoint = ap (λ (t : Recorded). Some t.sample.setpoint) q;
+      actual = ap (λ (t : Recorded). Some t.sample.actual) q;
     }
-three (N.Value x) (N.Value y) N.Malformed r e = absurd (malformed-none r e)
-three (N.Value x) N.Malformed z r e = absurd (malformed-none r e)
-three N.Malformed y z r e = absurd (malformed-none r e)
+three (Some x) (Some y) None r e = absurd (malformed-none r e)
+three (Some x) None z r e = absurd (malformed-none r e)
+three None y z r e = absurd (malformed-none r e)
 
 record Said (line : List ℕ) (r : Recorded) : Type 0 where
   c : List ℕ
@@ -143,7 +140,7 @@ pub record Ranged (to : ℕ) (l : Entry) (e : RecordedLine) : Type 0 where
   pub actual : power_in_range e.recorded.sample.actual ≡ true
 
 in-range : (to : ℕ) (r : Recorded) (e : RecordedLine) (b c d : Bool) → power_in_range r.second ≡ b → power_in_range r.sample.setpoint ≡ c → power_in_range r.sample.actual ≡ d
-    → cond (b && (c && d)) (R.Of (record { recorded = r; to = to })) R.Other ≡ R.Of e → Ranged to (E.Recorded r) e
+    → cond (b && (c && d)) (Some (record { recorded = r; to = to })) None ≡ Some e → Ranged to (E.Recorded r) e
 in-range to r e true true true p q s k =
     let is : ◌≡◌ {A = RecordedLine} (record { recorded = r; to = to }) e = cc in
     record {
@@ -157,13 +154,13 @@ in-range to r e true true false p q s k = absurd (let z : ◌≡◌ {A = ℕ} 0 
 in-range to r e true false d p q s k = absurd (let z : ◌≡◌ {A = ℕ} 0 1 = cc in (omega arith))
 in-range to r e false c d p q s k = absurd (let z : ◌≡◌ {A = ℕ} 0 1 = cc in (omega arith))
 
-pub ranged : (to : ℕ) (l : Entry) (e : RecordedLine) → recorded_by to l ≡ R.Of e → Ranged to l e
+pub ranged : (to : ℕ) (l : Entry) (e : RecordedLine) → recorded_by to l ≡ Some e → Ranged to l e
 ranged to (E.Recorded r) e k = in-range to r e _ _ _ refl refl refl k
 ranged to (E.Header h) e k = absurd (let z : ◌≡◌ {A = ℕ} 0 1 = cc in (omega arith))
 ranged to E.End e k = absurd (let z : ◌≡◌ {A = ℕ} 0 1 = cc in (omega arith))
 ranged to E.Malformed e k = absurd (let z : ◌≡◌ {A = ℕ} 0 1 = cc in (omega arith))
 
-noted : (s : List ℕ) (at : ℕ) (e : RecordedLine) (ls : List (List ℕ)) → lines_of (drop at s) ≡ ls → first_recorded at ls ≡ R.Of e → Noted s at e
+noted : (s : List ℕ) (at : ℕ) (e : RecordedLine) (ls : List (List ℕ)) → lines_of (drop at s) ≡ ls → first_recorded at ls ≡ Some e → Noted s at e
 unfolding first_recorded
 noted s at e [] q k = absurd (let z : ◌≡◌ {A = ℕ} 0 1 = cc in (omega arith))
 noted s at e (line ∷ lines) q k =
@@ -185,9 +182,9 @@ noted s at e (line ∷ lines) q k =
       place = omega (arith, r.place, recorded-length w.c w.a w.b, ap length w.form);
     }
 
-pub no-noted : (s : List ℕ) (at : ℕ) → ((e : RecordedLine) → Noted s at e → ⊥) → R.Other ≡ first_recorded at (lines_of (drop at s))
+pub no-noted : (s : List ℕ) (at : ℕ) → ((e : RecordedLine) → Noted s at e → ⊥) → None ≡ first_recorded at (lines_of (drop at s))
 no-noted s at never = by_cases (first_recorded at (lines_of (drop at s))) refl
   where
-    by_cases : (f : FirstRecorded) → first_recorded at (lines_of (drop at s)) ≡ f → R.Other ≡ first_recorded at (lines_of (drop at s))
-    by_cases (R.Of e) k = absurd (never e (noted s at e (lines_of (drop at s)) refl k))
-    by_cases R.Other k = sym k
+    by_cases : (f : Option RecordedLine) → first_recorded at (lines_of (drop at s)) ≡ f → None ≡ first_recorded at (lines_of (drop at s))
+    by_cases (Some e) k = absurd (never e (noted s at e (lines_of (drop at s)) refl k))
+    by_cases None k = sym k

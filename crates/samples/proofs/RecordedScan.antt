@@ -1,15 +1,12 @@
 -- A line of a recording as it is scanned: each test that fails shows that no recorded sample in range stands there.
+use Rattle.std.specs.Prelude.{Option, Some, None}
 use Rattle.std.proofs.Common.{◌≡◌, ℕ, ◌+◌, ◌-◌, ◌<◌, ◌≤◌, Bool, true, false, cond, eqb, List, [], ◌∷◌, ◌++◌, length, get_or, drop, sym, refl, ap, ◌∙◌, arith, drop_of_length-le, eq-eqb, ne_eqb}
 use Rattle.lines.specs.Lines.{lines_of}
 use Rattle.samples.specs.Scan.{Written, Powered, Pair, Paired}
 use Rattle.samples.specs.Recorded.{first_recorded, recorded_at}
 use Rattle.samples.specs.declared.Found.{Found}
-use Rattle.samples.specs.declared.Power.TheVariants as P
 use Rattle.samples.specs.declared.Row.{Row}
-use Rattle.samples.specs.declared.First.TheVariants as F
 use Rattle.samples.specs.declared.recorded.RecordedLine.{RecordedLine}
-use Rattle.samples.specs.declared.recorded.FirstRecorded.{FirstRecorded}
-use Rattle.samples.specs.declared.recorded.FirstRecorded.TheVariants as R
 use Rattle.samples.proofs.CutLaws.{no_lines_lem}
 use Rattle.samples.proofs.FieldScan.{beyond, head_at, then-byte}
 use Rattle.samples.proofs.LineScan.{letter-there, tab-there, past-letter, lettered}
@@ -38,7 +35,7 @@ module _ {s : List ℕ} {at : ℕ} {e : RecordedLine} (h : Noted s at e) where
   from-tab : drop (at + 2 + length h.c) s ≡ 9 ∷ (h.a ++ (9 ∷ (h.b ++ (10 ∷ h.rest))))
   from-tab = beyond s (at + 2) h.c _ from_second
 
-  module _ {f : Found} (p : Powered s (at + 2) (P.Of f)) where
+  module _ {f : Found} (p : Powered s (at + 2) (Some f)) where
     found-tab : f.to ≡ at + 2 + length h.c
     found-tab = let k = p.complete second-there in let q : f ≡ record { value = e.recorded.second; to = at + 2 + length h.c } = cc in ap (λ (g : Found). g.to) q
 
@@ -61,25 +58,25 @@ module _ {s : List ℕ} {at : ℕ} {e : RecordedLine} (h : Noted s at e) where
 
 -- a line that is no recorded sample in range
 module _ (s : List ℕ) (at : ℕ) where
-  pub no-letter : (get_or s at 0 ≡ 71 → ⊥) → R.Other ≡ first_recorded at (lines_of (drop at s))
+  pub no-letter : (get_or s at 0 ≡ 71 → ⊥) → None ≡ first_recorded at (lines_of (drop at s))
   no-letter n = no-noted s at (λ e h. n (letter-there s at 71 h.form))
 
-  pub no-first-tab : (get_or s (at + 1) 0 ≡ 9 → ⊥) → R.Other ≡ first_recorded at (lines_of (drop at s))
+  pub no-first-tab : (get_or s (at + 1) 0 ≡ 9 → ⊥) → None ≡ first_recorded at (lines_of (drop at s))
   no-first-tab n = no-noted s at (λ e h. n (tab-there s at 71 h.form))
 
-  pub no_second : Powered s (at + 2) P.None → R.Other ≡ first_recorded at (lines_of (drop at s))
+  pub no_second : Powered s (at + 2) None → None ≡ first_recorded at (lines_of (drop at s))
   no_second p = no-noted s at (λ e h. let k = p.complete (second-there h) in let z : ◌≡◌ {A = ℕ} 0 1 = cc in omega arith)
 
-  module _ {f : Found} (p : Powered s (at + 2) (P.Of f)) where
-    pub no-tab : (get_or s f.to 0 ≡ 9 → ⊥) → R.Other ≡ first_recorded at (lines_of (drop at s))
+  module _ {f : Found} (p : Powered s (at + 2) (Some f)) where
+    pub no-tab : (get_or s f.to 0 ≡ 9 → ⊥) → None ≡ first_recorded at (lines_of (drop at s))
     no-tab n = no-noted s at (λ e h. n (tab-found h p))
 
-    pub no-pair : Paired s (f.to + 1) F.Other → R.Other ≡ first_recorded at (lines_of (drop at s))
+    pub no-pair : Paired s (f.to + 1) None → None ≡ first_recorded at (lines_of (drop at s))
     no-pair q = no-noted s at (λ e h. let k = q.complete (pair-there h p) in let z : ◌≡◌ {A = ℕ} 0 1 = cc in omega arith)
 
     -- and one that is
-    pub a-recorded : {row : Row} → Paired s (f.to + 1) (F.Of row) → at + 1 < length s → get_or s at 0 ≡ 71 → get_or s (at + 1) 0 ≡ 9 → get_or s f.to 0 ≡ 9
-        → R.Of (record { recorded = record { second = f.value; sample = record { setpoint = row.setpoint; actual = row.actual } }; to = row.to })
+    pub a-recorded : {row : Row} → Paired s (f.to + 1) (Some row) → at + 1 < length s → get_or s at 0 ≡ 71 → get_or s (at + 1) 0 ≡ 9 → get_or s f.to 0 ≡ 9
+        → Some (record { recorded = record { second = f.value; sample = record { setpoint = row.setpoint; actual = row.actual } }; to = row.to })
         ≡ first_recorded at (lines_of (drop at s))
     a-recorded {row} q l letter tab middle =
         let m = p.sound f refl in
@@ -106,19 +103,19 @@ module _ (s : List ℕ) (at : ℕ) where
         sym (noted-first note)
 
 -- complete lines, or not
-pub ended-lines : (s : List ℕ) (at : ℕ) {r : FirstRecorded} → get_or s (length s - 1) 0 ≡ 10 → r ≡ first_recorded at (lines_of (drop at s)) → r ≡ recorded_at s at
+pub ended-lines : (s : List ℕ) (at : ℕ) {r : Option RecordedLine} → get_or s (length s - 1) 0 ≡ 10 → r ≡ first_recorded at (lines_of (drop at s)) → r ≡ recorded_at s at
 unfolding recorded_at
 ended-lines s at e q = rw (eq-eqb _ _ e) q
 
-pub open-end : (s : List ℕ) (at : ℕ) → (get_or s (length s - 1) 0 ≡ 10 → ⊥) → R.Other ≡ recorded_at s at
+pub open-end : (s : List ℕ) (at : ℕ) → (get_or s (length s - 1) 0 ≡ 10 → ⊥) → None ≡ recorded_at s at
 unfolding recorded_at
 open-end s at n = rw (ne_eqb _ _ n)
 
-pub past_end : (s : List ℕ) (at : ℕ) → length s ≤ at → R.Other ≡ recorded_at s at
+pub past_end : (s : List ℕ) (at : ℕ) → length s ≤ at → None ≡ recorded_at s at
 unfolding recorded_at first_recorded
-past_end s at h = sym (ap (λ (t : List ℕ). cond (eqb (get_or s (length s - 1) 0) 10) (first_recorded at (lines_of t)) R.Other) (drop_of_length-le s h) ∙ rw no_lines_lem
+past_end s at h = sym (ap (λ (t : List ℕ). cond {A = Option RecordedLine} (eqb (get_or s (length s - 1) 0) 10) (first_recorded at (lines_of t)) None) (drop_of_length-le s h) ∙ rw no_lines_lem
     (neither (eqb (get_or s (length s - 1) 0) 10)))
   where
-    neither : (b : Bool) → cond b R.Other R.Other ≡ R.Other
+    neither : (b : Bool) → cond {A = Option RecordedLine} b None None ≡ None
     neither true = refl
     neither false = refl

@@ -1,4 +1,5 @@
 -- A stretch, one sample after the other.
+use Rattle.std.specs.Prelude.{Option, Some, None}
 use Rattle.std.proofs.Common.{◌≡◌, ℕ, zero, suc, ◌+◌, ◌-◌, ◌<◌, ◌≤◌, Bool, true, false, cond, ◌&&◌, List, [], ◌∷◌, length, take, set, ℤ, sym, refl, ap, ◌∙◌, add-one, arith, drop_of_length-le}
 use lib.Seq.{sets}
 use Rattle.vocabulary.specs.declared.sample.Sample.{Sample}
@@ -10,7 +11,6 @@ use Rattle.reading.specs.declared.Line.TheVariants as L
 use Rattle.samples.specs.Stretch.{on_sample, front_samples, bytes_of, setpoints_of, actuals_of, lines_at, Ran}
 use Rattle.samples.specs.Scan.{row_of, first_of}
 use Rattle.samples.specs.declared.Row.{Row}
-use Rattle.samples.specs.declared.First.TheVariants as R
 use Rattle.samples.proofs.CutLaws.{no_lines_lem}
 use Rattle.samples.proofs.LineForm.{Shape, line_in, shape-lines, shape-says, shape-place}
 use Rattle.samples.proofs.LineScan.{from_next}
@@ -27,11 +27,11 @@ none-wanted zero ls e = refl
 none-wanted (suc n) ls e = absurd (omega arith)
 
 passed_over : (to : ℕ) (s : Sample) (more : List Sample) (b : Bool)
-    → cond b (R.Of (record { setpoint = s.setpoint; actual = s.actual; to = to })) R.Other ≡ R.Other → cond b (s ∷ more) [] ≡ []
+    → cond {A = Option Row} b (Some (record { setpoint = s.setpoint; actual = s.actual; to = to })) None ≡ None → cond b (s ∷ more) [] ≡ []
 passed_over to s more true e = absurd (let z : ◌≡◌ {A = ℕ} 0 1 = cc in (omega arith))
 passed_over to s more false e = refl
 
-other-line : (to : ℕ) (l : Line) (more : List Sample) → row_of to l ≡ R.Other → on_sample l more ≡ []
+other-line : (to : ℕ) (l : Line) (more : List Sample) → row_of to l ≡ None → on_sample l more ≡ []
 other-line to (L.Sample s) more e = passed_over to s more (power_in_range s.setpoint && power_in_range s.actual) e
 other-line to (L.Header h) more e = refl
 other-line to (L.Bounds bounds) more e = refl
@@ -40,7 +40,7 @@ other-line to (L.Contract c) more e = refl
 other-line to L.End more e = refl
 other-line to L.Malformed more e = refl
 
-pub other-first : (at n : ℕ) (ls : List (List ℕ)) → first_of at ls ≡ R.Other → front_samples n ls ≡ []
+pub other-first : (at n : ℕ) (ls : List (List ℕ)) → first_of at ls ≡ None → front_samples n ls ≡ []
 unfolding front_samples first_of
 other-first at zero ls e = refl
 other-first at (suc n) [] e = refl
@@ -110,3 +110,15 @@ finished f e =
 
 pub no-line-past : (n : ℕ) (s : List ℕ) (i : ℕ) → length s ≤ i → front_samples n (lines_at s i) ≡ []
 no-line-past n s i h = ap (λ (t : List ℕ). front_samples n (lines_of t)) (drop_of_length-le s h) ∙ ap (front_samples n) no_lines_lem ∙ no_line_lem n
+
+-- as many as were wanted
+pub all-stored : {s : List ℕ} {until : ℕ} {sp ac : List ℤ} {k i : ℕ} {sp' ac' : List ℤ} {k' i' : ℕ}
+    → Left s until sp ac k i sp' ac' k' i' → k' ≡ until → Ran s i k until sp ac sp' ac' (record { samples = until - k; bytes = i' - i })
+all-stored {k = k} f e =
+    let all = finished f (none-wanted _ _ (omega arith)) in
+    record {
+      samples = ap (λ (n : ℕ). n - k) (sym e) ∙ all.samples;
+      bytes = all.bytes;
+      setpoints = all.setpoints;
+      actuals = all.actuals;
+    }

@@ -1,21 +1,19 @@
 -- A number of no sign in the range of powers, from its digits as they are scanned.
-use Rattle.std.proofs.Common.{◌≡◌, ℕ, zero, ◌+◌, ◌<◌, ◌≤◌, Bool, true, false, cond, eqb, ltb, List, [], ◌∷◌, ◌++◌, length, get_or, drop, sym, refl, ap, ◌∙◌, add-zero, arith, get_or-drop, le-ltb, eq-eqb, ne_eqb, eqb-true}
+use Rattle.std.specs.Prelude.{Option, Some, None}
+use Rattle.std.proofs.Common.{◌≡◌, ℕ, ◌+◌, ◌<◌, ◌≤◌, Bool, true, false, cond, eqb, ltb, List, [], ◌∷◌, ◌++◌, length, get_or, drop, sym, refl, ap, ◌∙◌, add-zero, arith, get_or-drop, le-ltb, eq-eqb, ne_eqb, eqb-true}
 use native.Mathlib.Decide.{ℕ_discrete}
 use borrow.Author.Tests.{eqb-false}
 use Rattle.fields.specs.Numbers.{value_from, digits_of, unsigned_of}
-use Rattle.fields.specs.declared.number.Digits.{Digits as Said}
-use Rattle.fields.specs.declared.number.Digits.TheVariants as F
 use Rattle.samples.specs.Scan.{digits_from, Counted, Spells, Standing, Unsigned}
 use Rattle.samples.specs.declared.Digits.{Digits}
-use Rattle.samples.specs.declared.Whole.TheVariants as W
 use Rattle.samples.proofs.DigitScan.{Spelled, spelled, scanned, seven}
 
 -- what has a value passed the test before it
-passed : (b : Bool) (d : Said) (w : ℕ) → cond b F.Other d ≡ F.Value w → (b ≡ false) × (d ≡ F.Value w)
+passed : (b : Bool) (d : Option ℕ) (w : ℕ) → cond b None d ≡ Some w → (b ≡ false) × (d ≡ Some w)
 passed true d w e = absurd (let q : ◌≡◌ {A = ℕ} 0 1 = cc in (omega arith))
 passed false d w e = (refl, e)
 
-either : (b c : Bool) (d : Said) (w : ℕ) → cond b d (cond c F.Other d) ≡ F.Value w → (c ≡ true → b ≡ true) × (d ≡ F.Value w)
+either : (b c : Bool) (d : Option ℕ) (w : ℕ) → cond b d (cond c None d) ≡ Some w → (c ≡ true → b ≡ true) × (d ≡ Some w)
 either true c d w e = ((λ z. refl), e)
 either false true d w e = absurd (let q : ◌≡◌ {A = ℕ} 0 1 = cc in (omega arith))
 either false false d w e = ((λ z. z), e)
@@ -23,10 +21,10 @@ either false false d w e = ((λ z. z), e)
 -- what a number of no sign is, by its bytes
 pub record Plain (bytes : List ℕ) (n : ℕ) : Type 0 where
   pub some : length bytes ≡ 0 → ⊥
-  pub says : value_from 0 bytes ≡ F.Value n
+  pub says : value_from 0 bytes ≡ Some n
   pub zero-alone : get_or bytes 0 0 ≡ 48 → length bytes ≡ 1
 
-pub plain_of : (bytes : List ℕ) (n : ℕ) → unsigned_of 9 bytes ≡ F.Value n → Plain bytes n
+pub plain_of : (bytes : List ℕ) (n : ℕ) → unsigned_of 9 bytes ≡ Some n → Plain bytes n
 unfolding unsigned_of digits_of
 plain_of bytes n e =
     let p = passed (eqb (length bytes) 0) _ n e in
@@ -39,11 +37,11 @@ plain_of bytes n e =
       zero-alone = λ z. eqb-true _ _ (v.0 (eq-eqb _ _ z));
     }
 
-same : (b : Bool) (d : Said) → cond b d d ≡ d
+same : (b : Bool) (d : Option ℕ) → cond b d d ≡ d
 same true d = refl
 same false d = refl
 
-pub of_plain : (bytes : List ℕ) (n : ℕ) → Plain bytes n → length bytes ≤ 9 → unsigned_of 9 bytes ≡ F.Value n
+pub of_plain : (bytes : List ℕ) (n : ℕ) → Plain bytes n → length bytes ≤ 9 → unsigned_of 9 bytes ≡ Some n
 unfolding unsigned_of digits_of
 of_plain bytes n p short =
     let long : length bytes ≤ 18 = omega arith in
@@ -84,20 +82,20 @@ module _ {s : List ℕ} {from : ℕ} {read : Digits} (counted : Counted s from r
   found-value a = ap (λ (r : Digits). r.value) (found a)
 
   -- so where a test fails, there is none
-  nothing : ((n : ℕ) → Standing s from n → ⊥) → Unsigned s from W.None
+  nothing : ((n : ℕ) → Standing s from n → ⊥) → Unsigned s from None
   nothing none =
       record {
         sound = λ d e. absurd (let q : ◌≡◌ {A = ℕ} 0 1 = cc in (omega arith));
         complete = λ {n} a. absurd (none n a);
       }
 
-  pub no_digit : read.to ≡ from → Unsigned s from W.None
+  pub no_digit : read.to ≡ from → Unsigned s from None
   no_digit h = nothing (λ n a. (plain_of a.bytes n a.says).some (let q = found-to a in (omega arith)))
 
-  pub too_large : 2000000 < read.value → Unsigned s from W.None
+  pub too_large : 2000000 < read.value → Unsigned s from None
   too_large h = nothing (λ n a. let q = found-value a in let l = a.small in (omega arith))
 
-  pub zero-first : get_or s from 0 ≡ 48 → (read.to ≡ from + 1 → ⊥) → Unsigned s from W.None
+  pub zero-first : get_or s from 0 ≡ 48 → (read.to ≡ from + 1 → ⊥) → Unsigned s from None
   zero-first z h =
       nothing (λ n a.
       let p = plain_of a.bytes n a.says in
@@ -105,7 +103,7 @@ module _ {s : List ℕ} {from : ℕ} {read : Digits} (counted : Counted s from r
       h (found-to a ∙ ap (λ (k : ℕ). from + k) l))
 
   -- and where all hold, what was scanned is one
-  pub in-form : (read.to ≡ from → ⊥) → read.value ≤ 2000000 → (get_or s from 0 ≡ 48 → read.to ≡ from + 1) → Unsigned s from (W.Of read)
+  pub in-form : (read.to ≡ from → ⊥) → read.value ≤ 2000000 → (get_or s from 0 ≡ 48 → read.to ≡ from + 1) → Unsigned s from (Some read)
   in-form n small z =
       let sp : Spelled (drop from s) from 0 read = rw counted.is (spelled 7 (drop from s) from 0) in
       let some : (length sp.bytes ≡ 0 → ⊥) = λ l. n (sp.place ∙ rw (l, add-zero from)) in
@@ -126,5 +124,5 @@ module _ {s : List ℕ} {from : ℕ} {read : Digits} (counted : Counted s from r
       } in
       record {
         sound = λ d e. (let q : read ≡ d = cc in rw (← q) sound);
-        complete = λ {n} a. ap W.Of (found a);
+        complete = λ {n} a. ap Some (found a);
       }

@@ -1,9 +1,9 @@
 -- What the private functions say of the front of a sample line, which may stand as on the line before: bytes as one number, a setpoint that is kept.
-use Rattle.std.specs.Prelude.{◌≡◌, ℕ, zero, suc, ◌+◌, ◌-◌, ◌*◌, ◌<◌, ◌≤◌, Bool, true, List, pos, slice_index, slice_index_or}
-use Rattle.samples.specs.Scan.{Field}
+use Rattle.std.specs.Prelude.{◌≡◌, ℕ, zero, suc, ◌+◌, ◌-◌, ◌*◌, ◌<◌, ◌≤◌, Bool, true, List, drop, pos, slice_index, slice_index_or, Option, Some, option_map}
+use Rattle.lines.specs.Lines.{lines_of}
+use Rattle.samples.specs.Scan.{Field, first_of}
+use Rattle.samples.specs.declared.Row.{Row}
 use Rattle.samples.specs.declared.Front.{Front}
-use Rattle.samples.specs.declared.Start.{Start}
-use Rattle.samples.specs.declared.Start.TheVariants as S
 
 -- n bytes from a place on as one number, the first of them lowest
 unfoldable pub packed : ℕ → List ℕ → ℕ → ℕ
@@ -34,6 +34,11 @@ pub record Heads (s : List ℕ) (at : ℕ) (front : Front) : Type 0 where
   pub from : front.from ≡ at + 2
   pub field : Field s (at + 2) 9 (record { value = front.setpoint; to = front.tab })
 
-pub record Fronted (s : List ℕ) (at : ℕ) (r : Start) : Type 0 where
-  pub sound : (f : Front) → r ≡ S.Of f → Heads s at f
-  pub complete : {f : Front} → Heads s at f → r ≡ S.Of f
+pub record Fronted (s : List ℕ) (at : ℕ) (r : Option Front) : Type 0 where
+  pub sound : (f : Front) → r ≡ Some f → Heads s at f
+  pub complete : {f : Front} → Heads s at f → r ≡ Some f
+
+-- what the first line at a place says, and the front that it then has
+pub record Sampled (s : List ℕ) (at : ℕ) (r : Option (Front × Row)) : Type 0 where
+  pub is : first_of at (lines_of (drop at s)) ≡ option_map (λ (p : Front × Row). p.1) r
+  pub front : (f : Front) (row : Row) → r ≡ Some (f, row) → Heads s at f

@@ -1,22 +1,14 @@
 -- What the private functions say of the bytes that they scan: digits, numbers, a line.
-use Rattle.std.specs.Prelude.{◌≡◌, ℕ, zero, suc, ◌+◌, ◌-◌, ◌*◌, ◌<◌, ◌≤◌, true, false, cond, ◌&&◌, List, [], ◌∷◌, ◌++◌, length, drop, ℤ, slice_index, slice_index_or}
+use Rattle.std.specs.Prelude.{◌≡◌, ℕ, zero, suc, ◌+◌, ◌-◌, ◌*◌, ◌<◌, ◌≤◌, true, false, cond, ◌&&◌, List, [], ◌∷◌, ◌++◌, length, drop, ℤ, slice_index, slice_index_or, Option, Some, None}
 use Rattle.fields.specs.Numbers.{is_digit, unsigned_of, number_of}
-use Rattle.fields.specs.declared.number.Digits.TheVariants as F
-use Rattle.fields.specs.declared.number.Number.TheVariants as N
 use Rattle.lines.specs.Lines.{lines_of}
 use Rattle.reading.specs.Line.{line_of}
 use Rattle.reading.specs.declared.Line.{Line}
 use Rattle.reading.specs.declared.Line.TheVariants as L
 use Rattle.vocabulary.specs.Sample.{power_in_range}
 use Rattle.samples.specs.declared.Digits.{Digits}
-use Rattle.samples.specs.declared.Whole.{Whole}
-use Rattle.samples.specs.declared.Whole.TheVariants as W
 use Rattle.samples.specs.declared.Found.{Found}
-use Rattle.samples.specs.declared.Power.{Power}
-use Rattle.samples.specs.declared.Power.TheVariants as P
 use Rattle.samples.specs.declared.Row.{Row}
-use Rattle.samples.specs.declared.First.{First}
-use Rattle.samples.specs.declared.First.TheVariants as R
 
 -- a place of some bytes, of which the last is an LF
 pub record Ended (s : List ℕ) (at : ℕ) : Type 0 where
@@ -44,7 +36,7 @@ pub record Spells (s : List ℕ) (from : ℕ) (r : Digits) : Type 0 where
   pub bytes : List ℕ
   pub rest : List ℕ
   pub form : drop from s ≡ bytes ++ rest
-  pub says : unsigned_of 9 bytes ≡ F.Value r.value
+  pub says : unsigned_of 9 bytes ≡ Some r.value
   pub small : r.value ≤ 2000000
   pub place : r.to ≡ from + length bytes
   pub stands : Ended s r.to
@@ -56,20 +48,20 @@ pub record Standing (s : List ℕ) (from n : ℕ) : Type 0 where
   pub rest : List ℕ
   pub form : drop from s ≡ bytes ++ (byte ∷ rest)
   pub stop : is_digit byte ≡ false
-  pub says : unsigned_of 9 bytes ≡ F.Value n
+  pub says : unsigned_of 9 bytes ≡ Some n
   pub small : n ≤ 2000000
 
 -- what is found is such a number, and each that stands there is found
-pub record Unsigned (s : List ℕ) (from : ℕ) (r : Whole) : Type 0 where
-  pub sound : (d : Digits) → r ≡ W.Of d → Spells s from d
-  pub complete : {n : ℕ} (a : Standing s from n) → r ≡ W.Of (record { value = n; to = from + length a.bytes })
+pub record Unsigned (s : List ℕ) (from : ℕ) (r : Option Digits) : Type 0 where
+  pub sound : (d : Digits) → r ≡ Some d → Spells s from d
+  pub complete : {n : ℕ} (a : Standing s from n) → r ≡ Some (record { value = n; to = from + length a.bytes })
 
 -- the same under either sign
 pub record Names (s : List ℕ) (from : ℕ) (r : Found) : Type 0 where
   pub bytes : List ℕ
   pub rest : List ℕ
   pub form : drop from s ≡ bytes ++ rest
-  pub says : number_of bytes ≡ N.Value r.value
+  pub says : number_of bytes ≡ Some r.value
   pub ranged : power_in_range r.value ≡ true
   pub place : r.to ≡ from + length bytes
   pub stands : Ended s r.to
@@ -80,25 +72,25 @@ pub record Written (s : List ℕ) (from : ℕ) (z : ℤ) : Type 0 where
   pub rest : List ℕ
   pub form : drop from s ≡ bytes ++ (byte ∷ rest)
   pub stop : is_digit byte ≡ false
-  pub says : number_of bytes ≡ N.Value z
+  pub says : number_of bytes ≡ Some z
   pub ranged : power_in_range z ≡ true
 
-pub record Powered (s : List ℕ) (from : ℕ) (r : Power) : Type 0 where
-  pub sound : (f : Found) → r ≡ P.Of f → Names s from f
-  pub complete : {z : ℤ} (a : Written s from z) → r ≡ P.Of (record { value = z; to = from + length a.bytes })
+pub record Powered (s : List ℕ) (from : ℕ) (r : Option Found) : Type 0 where
+  pub sound : (f : Found) → r ≡ Some f → Names s from f
+  pub complete : {z : ℤ} (a : Written s from z) → r ≡ Some (record { value = z; to = from + length a.bytes })
 
 -- a power that a byte ends
 pub record Field (s : List ℕ) (from byte : ℕ) (f : Found) : Type 0 where
   pub bytes : List ℕ
   pub rest : List ℕ
   pub form : drop from s ≡ bytes ++ (byte ∷ rest)
-  pub says : number_of bytes ≡ N.Value f.value
+  pub says : number_of bytes ≡ Some f.value
   pub ranged : power_in_range f.value ≡ true
   pub place : f.to ≡ from + length bytes
 
-pub record Fielded (s : List ℕ) (from byte : ℕ) (r : Power) : Type 0 where
-  pub sound : (f : Found) → r ≡ P.Of f → Field s from byte f
-  pub complete : {f : Found} → Field s from byte f → r ≡ P.Of f
+pub record Fielded (s : List ℕ) (from byte : ℕ) (r : Option Found) : Type 0 where
+  pub sound : (f : Found) → r ≡ Some f → Field s from byte f
+  pub complete : {f : Found} → Field s from byte f → r ≡ Some f
 
 -- the row of a setpoint z: a power and an LF stand after the tab behind it
 pub record Closes (s : List ℕ) (tab : ℕ) (z : ℤ) (row : Row) : Type 0 where
@@ -107,9 +99,9 @@ pub record Closes (s : List ℕ) (tab : ℕ) (z : ℤ) (row : Row) : Type 0 wher
   pub actual : Field s (tab + 1) 10 (record { value = row.actual; to = end })
   pub place : row.to ≡ end + 1
 
-pub record Closed (s : List ℕ) (tab : ℕ) (z : ℤ) (r : First) : Type 0 where
-  pub sound : (row : Row) → r ≡ R.Of row → Closes s tab z row
-  pub complete : {row : Row} → Closes s tab z row → r ≡ R.Of row
+pub record Closed (s : List ℕ) (tab : ℕ) (z : ℤ) (r : Option Row) : Type 0 where
+  pub sound : (row : Row) → r ≡ Some row → Closes s tab z row
+  pub complete : {row : Row} → Closes s tab z row → r ≡ Some row
 
 -- a power, a tab, a power and an LF at a place: the end of a sample's line
 pub record Pair (s : List ℕ) (from : ℕ) (row : Row) : Type 0 where
@@ -117,28 +109,28 @@ pub record Pair (s : List ℕ) (from : ℕ) (row : Row) : Type 0 where
   pub b : List ℕ
   pub rest : List ℕ
   pub form : drop from s ≡ a ++ (9 ∷ (b ++ (10 ∷ rest)))
-  pub setpoint : number_of a ≡ N.Value row.setpoint
-  pub actual : number_of b ≡ N.Value row.actual
+  pub setpoint : number_of a ≡ Some row.setpoint
+  pub actual : number_of b ≡ Some row.actual
   pub setpoint_ranged : power_in_range row.setpoint ≡ true
   pub actual_ranged : power_in_range row.actual ≡ true
   pub place : row.to ≡ from + length a + 1 + length b + 1
 
-pub record Paired (s : List ℕ) (from : ℕ) (r : First) : Type 0 where
-  pub sound : (row : Row) → r ≡ R.Of row → Pair s from row
-  pub complete : {row : Row} → Pair s from row → r ≡ R.Of row
+pub record Paired (s : List ℕ) (from : ℕ) (r : Option Row) : Type 0 where
+  pub sound : (row : Row) → r ≡ Some row → Pair s from row
+  pub complete : {row : Row} → Pair s from row → r ≡ Some row
 
 -- a line that ends before `to`
-abbrev pub row_of : ℕ → Line → First
+abbrev pub row_of : ℕ → Line → Option Row
 row_of to (L.Sample s) =
-    cond (power_in_range s.setpoint && power_in_range s.actual) (R.Of (record { setpoint = s.setpoint; actual = s.actual; to = to })) R.Other
-row_of to (L.Header h) = R.Other
-row_of to (L.Bounds b) = R.Other
-row_of to (L.Setpoint s) = R.Other
-row_of to (L.Contract c) = R.Other
-row_of to L.End = R.Other
-row_of to L.Malformed = R.Other
+    cond (power_in_range s.setpoint && power_in_range s.actual) (Some (record { setpoint = s.setpoint; actual = s.actual; to = to })) None
+row_of to (L.Header h) = None
+row_of to (L.Bounds b) = None
+row_of to (L.Setpoint s) = None
+row_of to (L.Contract c) = None
+row_of to L.End = None
+row_of to L.Malformed = None
 
 -- the first of some lines, which start at `at`
-unfoldable pub first_of : ℕ → List (List ℕ) → First
-first_of at [] = R.Other
+unfoldable pub first_of : ℕ → List (List ℕ) → Option Row
+first_of at [] = None
 first_of at (line ∷ lines) = row_of (at + (length line + 1)) (line_of line)

@@ -4,7 +4,7 @@ ghost use Rattle.lines.specs.Lines.{lines_of};
 ghost use Rattle.samples.specs.Scan.{Ended};
 ghost use Rattle.samples.specs.Recorded.{first_recorded, recorded_at};
 
-use crate::{First, LF, Power, pair_at, power_at};
+use crate::{LF, pair_at, power_at};
 use vocabulary::recorded::Recorded;
 use vocabulary::sample::Sample;
 
@@ -15,35 +15,20 @@ pub struct RecordedLine {
     pub to: usize,
 }
 
-// What the first of some lines is: a recorded sample in range, or anything else.
-#[derive(Clone, Copy)]
-pub enum FirstRecorded {
-    Of(RecordedLine),
-    Other,
-}
-
-// The line that starts at a place.
-fn entered_at(lines: &[u8], at: usize) -> FirstRecorded
+// The line that starts at a place, if it is a recorded sample in range.
+fn entered_at(lines: &[u8], at: usize) -> Option<RecordedLine>
     requires { Ended lines.now at }
     ensures { result ≡ first_recorded at (lines_of (drop at lines.now)) }
 {
-    if lines[at] != b'G' {
-        return FirstRecorded::Other;
+    if lines[at] != b'G' || lines[at + 1] != b'\t' {
+        return None;
     }
-    if lines[at + 1] != b'\t' {
-        return FirstRecorded::Other;
+    let second = power_at(lines, at + 2)?;
+    if lines[second.to] != b'\t' {
+        return None;
     }
-    let Power::Of(second) = power_at(lines, at + 2) else {
-        return FirstRecorded::Other;
-    };
-    let tab = second.to;
-    if lines[tab] != b'\t' {
-        return FirstRecorded::Other;
-    }
-    let First::Of(row) = pair_at(lines, tab + 1) else {
-        return FirstRecorded::Other;
-    };
-    FirstRecorded::Of(RecordedLine {
+    let row = pair_at(lines, second.to + 1)?;
+    Some(RecordedLine {
         recorded: Recorded {
             second: second.value,
             sample: Sample {
@@ -56,14 +41,11 @@ fn entered_at(lines: &[u8], at: usize) -> FirstRecorded
 }
 
 // The line that starts at a place of some complete lines, of which the last byte is an LF: a look at that byte is all that a line costs beside its own bytes.
-pub fn recorded_at(lines: &[u8], at: usize) -> FirstRecorded
+pub fn recorded_at(lines: &[u8], at: usize) -> Option<RecordedLine>
     ensures { result ≡ recorded_at lines.now at }
 {
-    if lines.len() <= at {
-        return FirstRecorded::Other;
-    }
-    if lines[lines.len() - 1] != LF {
-        return FirstRecorded::Other;
+    if lines.len() <= at || lines[lines.len() - 1] != LF {
+        return None;
     }
     entered_at(lines, at)
 }

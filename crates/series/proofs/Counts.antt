@@ -1,6 +1,6 @@
 -- Powers counted by place: how one run more adds to the counts, so that they come to the slices of a series.
 -- Assumes nothing.
-use Rattle.std.proofs.Common.{◌≡◌, ℕ, zero, suc, ◌+◌, ◌-◌, ◌*◌, ◌%◌, ◌^◌, ◌<◌, ◌≤◌, List, length, get_or, take, drop, set, replicate, sym, ap, ◌∙◌, ⊎_elim, zero-le, add-zero, add_assoc, mod-lt, add-mul, zero-mul, sub-one, arith, length-drop, length-set, length-take-le, get_or-set_other, get_or-set_same, take-add}
+use Rattle.std.proofs.Common.{◌≡◌, ℕ, zero, suc, ◌+◌, ◌-◌, ◌*◌, ◌%◌, ◌^◌, ◌<◌, ◌≤◌, List, length, get_or, take, drop, set, replicate, sym, ap, ◌∙◌, ⊎_elim, zero-le, add-zero, add_assoc, mod-lt, add-mul, zero-mul, arith, length-drop, length-set, length-take-le, get_or-set_other, get_or-set_same, take-add}
 use native.Mathlib.Nat.{mod-mod, mod-add-mod, add-mod-mod, zero-sub}
 use lib.ListN.{length-replicate}
 use lib.Seq.{take-set-le}
@@ -19,15 +19,6 @@ pub same-plus : (a b c : ℕ) → Same a b → Same (a + c) (b + c)
 same-plus a b c e = sym (mod-add-mod a (2 ^ 64) c) ∙ ap (λ (x : ℕ). (x + c) % 2 ^ 64) e ∙ mod-add-mod b (2 ^ 64) c
 
 -- ---- rising limits
-
--- the lower limit of a place: the limit before it, and 0 at the first
-pub low-before : (l : List ℕ) (k : ℕ) → 0 < k → get_or l (k - 1) 0 ≡ low_at l k
-low-before l zero h = absurd (omega arith)
-low-before l (suc k) h = rw (sub-one (suc k))
-
-pub low_first : (l : List ℕ) (k v : ℕ) → k ≤ 0 → low_at l k ≤ v
-low_first l zero v h = zero-le
-low_first l (suc k) v h = absurd (omega arith)
 
 -- a limit is no more than the lower one of a later place
 pub low-after : (limits : List ℕ) → Orderly limits → (k j : ℕ) → k < j → j ≤ length limits → get_or limits k 0 ≤ low_at limits j

@@ -1,6 +1,6 @@
 -- How a loop over the limits comes to the pieces of a series: slice by slice, each from its own sum or from what is counted by place.
 -- Assumes nothing.
-use Rattle.std.proofs.Common.{◌≡◌, ℕ, zero, suc, ◌+◌, ◌-◌, ◌*◌, ◌%◌, ◌^◌, ◌<◌, ◌≤◌, List, [], ◌∷◌, length, get_or, take, set, sym, refl, ◌∙◌, zero-le, add-zero, mod-eq_of_lt, mul-le-mul, add-one, arith, take-suc, below_more}
+use Rattle.std.proofs.Common.{◌≡◌, ℕ, zero, suc, ◌+◌, ◌-◌, ◌*◌, ◌%◌, ◌^◌, ◌<◌, ◌≤◌, List, [], ◌∷◌, length, get_or, take, set, sym, refl, ◌∙◌, zero-le, add-zero, mod-eq_of_lt, mul-le-mul, add-one, arith, take-suc}
 use lib.Seq.{take-length}
 use Rattle.arithmetic.specs.Whole.{least_of}
 use Rattle.series.specs.Sums.{over_of, sum_of}
@@ -138,30 +138,3 @@ module _ (limits powers counts parts : List ℕ) (n : Known limits powers counts
 
       rest : get_or parts k 0 ≡ above_of low powers % 2 ^ 64
       rest = rw (m.storing.lower, at-end) counted-rest
-
--- ---- limits looked through: the first k rise, none passes `low`
-
-pub record Rose (limits : List ℕ) (low k : ℕ) : Type 0 where
-  pub within : k ≤ length limits
-  pub rising : (i j : ℕ) → i ≤ j → j < k → get_or limits i 0 ≤ get_or limits j 0
-  pub top : (i : ℕ) → i < k → get_or limits i 0 ≤ low
-  pub small : low ≤ 2 ^ 48
-
-pub rose-none : (limits : List ℕ) → Rose limits 0 0
-rose-none limits = record { within = zero-le; rising = λ i j q h. absurd (omega arith); top = λ i h. absurd (omega arith); small = omega arith }
-
-pub rose-more : (limits : List ℕ) (low k : ℕ) → k < length limits → low ≤ get_or limits k 0 → get_or limits k 0 ≤ 2 ^ 48 → Rose limits low k → Rose limits (get_or limits k 0) (k + 1)
-rose-more limits low k h up bound r =
-    record {
-      within = omega arith;
-      rising = λ i j q p. below_more (λ m. (i : ℕ) → i ≤ m → get_or limits i 0 ≤ get_or limits m 0) k (λ m s i t. r.rising i m t s) (λ i t. below i (omega arith)) j p i q;
-      top = below;
-      small = bound;
-    }
-  where
-    below : (i : ℕ) → i < k + 1 → get_or limits i 0 ≤ get_or limits k 0
-    below = below_more (λ i. get_or limits i 0 ≤ get_or limits k 0) k (λ i p. omega (arith, r.top i p)) (omega arith)
-
-pub rose-all : (limits : List ℕ) (low k : ℕ) → length limits ≤ 32 → length limits ≤ k → Rose limits low k → Orderly limits
-rose-all limits low k few h r =
-    record { few = few; rising = λ i j q p. r.rising i j q (omega arith); small = λ i p. omega (arith, r.top i (omega arith), r.small) }

@@ -1,6 +1,6 @@
 -- Powers that stay between two limits: a run of them, as the code counts it, and what their slices come to.
 -- Assumes nothing.
-use Rattle.std.proofs.Common.{◌≡◌, ℕ, ◌+◌, ◌-◌, ◌*◌, ◌%◌, ◌^◌, ◌<◌, ◌≤◌, List, [], ◌∷◌, ◌++◌, length, get_or, take, sym, refl, ◌∙◌, zero-le, mod-eq_of_lt, suc-mul, zero-add, add-one, arith, take-suc}
+use Rattle.std.proofs.Common.{◌≡◌, ℕ, ◌+◌, ◌-◌, ◌*◌, ◌%◌, ◌^◌, ◌<◌, ◌≤◌, List, [], ◌∷◌, ◌++◌, length, get_or, take, refl, zero-le, mod-eq_of_lt, suc-mul, zero-add, add-one, arith, take-suc}
 use native.Mathlib.Nat.{mod-add-mod}
 use Rattle.arithmetic.specs.Whole.{least_of}
 use Rattle.series.specs.Sums.{over_of}
@@ -36,18 +36,13 @@ ran_first low high l h a b f = ran-more low high l 0 0 (get_or l 0 0 - low) 1 h 
     small : get_or l 0 0 < 2 ^ 64 → get_or l 0 0 - low < 2 ^ 64
     small f = omega arith
 
--- a power that is lifted by no more than the width above the lower limit lies between the two; below it, the difference wraps and is larger
-pub lifted : (low high v above : ℕ) → low ≤ high → high < 2 ^ 64 → (above + low) % 2 ^ 64 ≡ v → above ≤ high - low → above + low ≡ v
-lifted low high v above h f e q =
-    let small : above + low < 2 ^ 64 = omega arith in
-    sym (mod-eq_of_lt small) ∙ e
-
-pub ran-lifted : (low high : ℕ) (l : List ℕ) (sum i above next j : ℕ) → i < length l → low ≤ high → high < 2 ^ 64 → (above + low) % 2 ^ 64 ≡ get_or l i 0 → above ≤ high - low
-    → next ≡ (sum + above) % 2 ^ 64 → j ≡ i + 1 → Ran low high l sum i → Ran low high l next j
-ran-lifted low high l sum i above next j h up f e q n k r =
-    let v : above + low ≡ get_or l i 0 = lifted low high (get_or l i 0) above up f e q in
-    let a : above ≡ get_or l i 0 - low = omega arith in
-    ran-more low high l sum i next j h (omega arith) (omega arith) (rw a at n) k r
+-- a power above the lower limit by no more than the width lies between the two; below it, the difference wraps and is larger
+pub ran-lifted : (low high : ℕ) (l : List ℕ) (sum i j : ℕ) → i < length l → low ≤ high → high < 2 ^ 64 → get_or l i 0 < 2 ^ 64
+    → (get_or l i 0 + (2 ^ 64 - low)) % 2 ^ 64 ≤ high - low → j ≡ i + 1 → Ran low high l sum i
+    → Ran low high l ((sum + (get_or l i 0 + (2 ^ 64 - low)) % 2 ^ 64) % 2 ^ 64) j
+ran-lifted low high l sum i j h up f v q k r =
+    let a : (get_or l i 0 + (2 ^ 64 - low)) % 2 ^ 64 ≡ get_or l i 0 - low = omega arith in
+    ran-more low high l sum i _ j h (omega arith) (omega arith) (rw a) k r
 
 -- ---- the slices of powers that lie between two limits: full below them, what is above the lower one between them, nothing above them
 

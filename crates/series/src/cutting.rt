@@ -1,15 +1,11 @@
 // A series cut at all limits of a direction at once.
 ghost use Rattle.std.specs.Prelude.{◌≡◌, ◌%◌, ◌^◌, ◌≤◌, true, length, take};
 ghost use Rattle.series.specs.Slices.{slice_of, sliced_of};
-ghost use Rattle.series.specs.Cuts.{pieces_of, no_sums};
+ghost use Rattle.series.specs.Cuts.{pieces_of};
 ghost use Rattle.series.specs.Counts.{Orderly};
 
 use crate::counting::counted;
 use arithmetic::power::Power;
-use std::num::wrapping_add_u64;
-
-// The most that 64 bits hold: no power is above it.
-pub(crate) const MOST: u64 = 18_446_744_073_709_551_615;
 
 // The sum of each slice, and of what lies above the last limit.
 #[derive(Clone, Copy)]
@@ -18,13 +14,8 @@ pub struct Pieces {
     pub rest: u64,
 }
 
-pub(crate) fn no_sums() -> [u64; 32]
-    ensures { result ≡ no_sums }
-{
-    [0u64; 32]
-}
-
 // The part of a power between two limits.
+#[tactic(auto, unfolding(crate::specs::Slices::slice_of))]
 fn slice(power: Power, low: Power, high: Power) -> Power
     ensures { result.0 ≡ slice_of low.0 high.0 power.0 }
 {
@@ -36,10 +27,8 @@ fn sliced(powers: &[u64], low: Power, high: Power) -> u64
     ensures { result ≡ sliced_of low.0 high.0 powers.now % 2 ^ 64 }
 {
     let mut sum: u64 = 0;
-    let mut i = 0;
-    while i < powers.len() {
-        sum = wrapping_add_u64(sum, slice(Power(powers[i]), low, high).0);
-        i += 1;
+    for &power in powers {
+        sum = sum.wrapping_add(slice(Power(power), low, high).0);
     }
     sum
 }
@@ -49,19 +38,15 @@ fn plain(powers: &[u64], limits: &[u64]) -> Pieces
     requires { length limits.now ≤ 32 }
     ensures { result ≡ pieces_of limits.now powers.now }
 {
-    let mut sums = no_sums();
+    let mut sums = [0; 32];
     let mut low = Power(0);
-    let mut k: usize = 0;
-    while k < limits.len() {
-        let high = Power(limits[k]);
+    for (k, &limit) in limits.iter().enumerate() {
+        let high = Power(limit);
         sums[k] = sliced(powers, low, high);
         low = high;
-        k += 1;
     }
-    Pieces {
-        sums: sums,
-        rest: sliced(powers, low, Power(MOST)),
-    }
+    let rest = sliced(powers, low, Power(u64::MAX));
+    Pieces { sums, rest }
 }
 
 // Whether limits rise, and none is so high that products with the length of a series wrap.
@@ -69,21 +54,7 @@ fn orderly(limits: &[u64]) -> bool
     requires { length limits.now ≤ 32 }
     ensures { result ≡ true → Orderly limits.now }
 {
-    let mut low: u64 = 0;
-    let mut k: usize = 0;
-    while k < limits.len() {
-        let high = limits[k];
-        let falls = high < low;
-        if falls {
-            return false;
-        }
-        if 281_474_976_710_656 < high {
-            return false;
-        }
-        low = high;
-        k += 1;
-    }
-    true
+    limits.is_sorted() && limits.iter().all(|limit| *limit <= 281_474_976_710_656)
 }
 
 // By counting where the limits are those of contracts and the series is no longer than a quarter hour's, else plainly.
@@ -91,21 +62,17 @@ fn pieces_of(powers: &[u64], limits: &[u64]) -> Pieces
     requires { length limits.now ≤ 32 }
     ensures { result ≡ pieces_of limits.now powers.now }
 {
-    if 32768 < powers.len() {
-        return plain(powers, limits);
+    if powers.len() <= 32768 && orderly(limits) {
+        counted(powers, limits)
+    } else {
+        plain(powers, limits)
     }
-    if orderly(limits) {
-        return counted(powers, limits);
-    }
-    plain(powers, limits)
 }
 
-// A series cut at the first `count` limits, each the upper limit of a slice and the lower one of the next.
+// A series cut at the first `count` limits, each the upper limit of a slice and the lower one of the next. An array and a count stay, since a slice would
+// have to be asked to be no longer than 32.
 pub fn cut(powers: &[u64], limits: [u64; 32], count: usize) -> Pieces
     ensures { result ≡ pieces_of (take count limits) powers.now }
 {
-    if 32 < count {
-        return pieces_of(powers, &limits);
-    }
-    pieces_of(powers, &limits[..count])
+    pieces_of(powers, &limits[..count.min(32)])
 }

@@ -2,86 +2,54 @@
 // the reader, and what it prints is written out.
 #![tactic(auto)]
 
-ghost use Rattle.std.specs.Prelude.{◌≡◌, true, ◌+◌, ◌-◌, ◌≤◌, ◌<◌, length, take, drop};
-ghost use Rattle.sheets.specs.Buffer.{buffer_length, length_of};
+ghost use Rattle.std.specs.Prelude.{◌≡◌, ℕ, ◌+◌, ◌-◌, ◌≤◌, ◌<◌, length, take, drop};
+ghost use Rattle.feed.specs.Reader.{closed_of};
 ghost use Rattle.feed.specs.Feeding.{Through};
+ghost use Rattle.feed.proofs.UsedLaws.{at_end, at_closed};
 
 use feed::Reader;
 use samples::complete;
-use sheets::{BUFFER, Printed};
+use sheets::BUFFER;
 use std::io::Read;
+use stream::{Blocks, Part};
+use vocabulary::refusal::Refusal;
 
 // So much is read at once: a larger block has more pages to be made, and a smaller one is read more often.
 const BLOCK: usize = 65536;
 
-// The reader after some input, whether all that it printed could be written out, and how many bytes are left, which were read and not fed.
+// The reader, as one of blocks.
 #[derive(Clone, Copy)]
-struct Passed {
-    reader: Reader,
-    wrote: bool,
-    left: usize,
-}
+struct Settling(Reader);
 
-// The block that is read into.
-fn no_block() -> [u8; BLOCK]
-    ensures { 65536 ≡ length result }
-{
-    [0u8; BLOCK]
-}
+impl Blocks for Settling {
+    const NAME: &'static str = "settle";
 
-// The buffer that the reader prints into.
-fn blank() -> [u8; BUFFER]
-    ensures { buffer_length ≡ length result }
-{
-    [0u8; BUFFER]
-}
+    ghost stopped = { λ settling. closed_of settling.0.desk };
 
-// Writes out what a call printed into a buffer; where that fails, it says so.
-fn written(rt: &(impl Print + Eprint), printed: Printed, out: &[u8]) -> bool
-    requires { length_of printed ≤ length out.now }
-{
-    let Printed::Length(n) = printed else {
-        return false;
-    };
-    if rt.write_all(&out[..n]).is_ok() {
-        return true;
+    ghost through = { λ settling bytes last. Through settling.0 bytes last.0 };
+
+    fn stopped(&self) -> bool {
+        self.0.is_closed()
     }
-    let _ = eprint!(rt; "settle: the output could not be written\n");
-    false
-}
 
-// A block of input, fed to the reader until it is used up or nothing is read any more.
-fn fed(rt: &(impl Print + Eprint), reader: Reader, block: &[u8], out: &mut [u8]) -> Passed
-    requires { buffer_length ≤ length out.old }
-    ensures { result.wrote ≡ true → Through reader block.now result.reader }
-{
-    let mut now = reader;
-    let mut i = 0;
-    while i < block.len() {
-        if now.is_closed() {
-            return Passed {
-                reader: now,
-                wrote: true,
-                left: 0,
-            };
-        }
-        let part = now.feed(&block[i..], out);
-        let printed = part.printed;
-        now = part.reader;
-        i += part.used;
-        if !written(rt, printed, out) {
-            return Passed {
-                reader: now,
-                wrote: false,
-                left: 0,
-            };
+    fn read(&mut self, block: &[u8], out: &mut [u8]) -> Part {
+        let fed = self.0.feed(block, out);
+        self.0 = fed.reader;
+        Part {
+            used: fed.used,
+            printed: fed.printed,
         }
     }
-    Passed {
-        reader: now,
-        wrote: true,
-        left: 0,
+
+    fn finish(&mut self, out: &mut [u8]) -> Result<usize, Refusal> {
+        let ended = self.0.finish(out);
+        self.0 = ended.reader;
+        ended.printed
     }
+
+    ghost at_end = { λ settling. at_end settling.0 };
+
+    ghost at_stop = { λ settling. at_closed settling.0 };
 }
 
 // How much of what is at hand is fed: its whole lines, since a line that a call ends within costs about as much as a hundred others. All of it is, where no line
@@ -90,10 +58,7 @@ fn fed_length(block: &[u8], ended: bool) -> usize
     ensures { (result ≤ length block.now) × (0 < length block.now → 0 < result) }
 {
     let lines = complete(block);
-    if ended {
-        return block.len();
-    }
-    if lines == 0 {
+    if ended || lines == 0 {
         return block.len();
     }
     lines
@@ -104,78 +69,58 @@ fn left_over(block: &mut [u8], from: usize, to: usize) -> usize
     requires { (from ≤ to) × (to ≤ length block.old) }
     ensures { (result ≡ to - from) × (take result block.new ≡ take result (drop from block.old)) }
 {
-    let mut k = 0;
-    while k < to - from {
-        let byte = block[from + k];
-        block[k] = byte;
-        k += 1;
-    }
-    k
+    block.copy_within(from..to, 0);
+    to - from
 }
 
-// What is at hand, the first `all` bytes of a block: its whole lines are fed, and the rest is kept.
+// What is at hand, the first `all` bytes of a block: its whole lines are fed, and the rest is kept, so many bytes; none where what was printed could not be written.
 fn turn(
     rt: &(impl Print + Eprint),
-    reader: Reader,
+    reader: &mut Settling,
     block: &mut [u8],
     all: usize,
     ended: bool,
     out: &mut [u8],
-) -> Passed
-    requires all_in_bounds { all ≤ length block.old }
-    requires buffer_length_in_bounds { buffer_length ≤ length out.old }
-    ensures fed { result.wrote ≡ true → Through reader (take (all - result.left) block.old) result.reader }
-    ensures kept { take result.left block.new ≡ take result.left (drop (all - result.left) block.old) }
-    ensures fewer { (result.left ≤ all) × (0 < all → result.left < all) }
+) -> Option<usize>
+    requires { all ≤ length block.old }
+    ensures fed { (left : ℕ) → result ≡ Some left → Through reader.old.0 (take (all - left) block.old) reader.new.0 }
+    ensures kept { (left : ℕ) → result ≡ Some left → take left block.new ≡ take left (drop (all - left) block.old) }
+    ensures fewer { (left : ℕ) → result ≡ Some left → (left ≤ all) × (0 < all → left < all) }
 {
     let end = fed_length(&block[..all], ended);
-    let mut passed = fed(rt, reader, &block[..end], out);
-    passed.left = left_over(block, end, all);
-    passed
+    if !reader.fed(rt, &block[..end], out) {
+        return None;
+    }
+    Some(left_over(block, end, all))
 }
 
-// Reads once, behind the bytes that are left; answers how many came, none where the input has ended. A read that fails ends it too.
+// Reads behind the bytes that are left; answers how many came, none where the input has ended. A read that fails ends it too.
 fn read_on(input: &mut impl Read, block: &mut [u8], left: usize) -> usize
     requires { left ≤ length block.old }
     ensures { left + result ≤ length block.old }
 {
-    match input.read(&mut block[left..]) {
-        Ok(n) => n,
-        Err(_) => 0,
-    }
+    input.read(&mut block[left..]).unwrap_or(0)
 }
 
-// The input has ended.
-fn close(rt: &(impl Print + Eprint), reader: Reader, out: &mut [u8])
-    requires { buffer_length ≤ length out.old }
-{
-    let ended = reader.finish(out);
-    let printed = ended.printed;
-    written(rt, printed, out);
-}
-
-// A proved loop has to end, and nothing says that an input does: it counts down from a number that no input uses up.
+// A proved loop has to end, and nothing says that an input does: it counts as far as no input goes.
 fn main(rt: HostRuntime) {
     let mut input = rt.stdin();
-    let mut reader = Reader::new();
-    let mut block = no_block();
-    let mut out = blank();
+    let mut reader = Settling(Reader::new());
+    let mut block = [0u8; BLOCK];
+    let mut out = [0u8; BUFFER];
     let mut left = 0;
-    let mut turns = u64::MAX;
-    while turns > 0 {
+    for _ in 0..u64::MAX {
         let n = read_on(&mut input, &mut block, left);
-        let passed = turn(&rt, reader, &mut block, left + n, n == 0, &mut out);
-        if !passed.wrote {
+        let Some(kept) = turn(&rt, &mut reader, &mut block, left + n, n == 0, &mut out) else {
             return;
-        }
-        reader = passed.reader;
-        left = passed.left;
-        if reader.is_closed() {
+        };
+        left = kept;
+        if reader.stopped() {
             return;
         }
         if n == 0 {
-            return close(&rt, reader, &mut out);
+            reader.ended(&rt, &mut out);
+            return;
         }
-        turns -= 1;
     }
 }

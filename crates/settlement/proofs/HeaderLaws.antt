@@ -4,15 +4,15 @@ use Prim.Native.Nat.{ℕ, ◌+◌, ◌≤◌}
 use mathlib.Core.Path.{◌≡◌}
 use mathlib.Core.Bool.{true, not}
 use native.Mathlib.Omega.{arith}
-use lib.Dec.{lit<}
 use borrow.Author.Tests.{not-false}
+use Rattle.std.specs.Prelude.{Ok}
 use lib.IntN.{ℤ, pos}
 use lib.Signed.{le_z}
 use Rattle.arithmetic.specs.Whole.{up, down, within_of}
 use Rattle.arithmetic.specs.Date.{real_day}
 use Rattle.arithmetic.proofs.Booleans.{both}
 use Rattle.arithmetic.proofs.Signed.{le-true, up_pos, down_pos, down-zero}
-use Rattle.vocabulary.specs.declared.refusal.Refusal.TheVariants.{None, BadInterval, BadLot, BadDate, BadQuarters}
+use Rattle.vocabulary.specs.declared.refusal.Refusal.TheVariants.{BadInterval, BadLot, BadDate, BadQuarters}
 use Rattle.vocabulary.specs.declared.header.Header.{Header}
 use Rattle.contracts.proofs.Accepted.{passed}
 use Rattle.settlement.specs.Plan.{lot_meant}
@@ -28,11 +28,11 @@ in-range low high z e =
     (omega (arith, up_pos low, down_pos low), omega (arith, up_pos high, down_pos high))
 
 -- one that is accepted names 1 to 100 quarter hours
-pub opened-quarters : (h : Header) → open_refusal h ≡ None → (1 ≤ up h.quarters) × (up h.quarters ≤ 100)
+pub opened-quarters : (h : Header) → open_refusal h ≡ Ok tt → (1 ≤ up h.quarters) × (up h.quarters ≤ 100)
 unfolding header_grounds
 opened-quarters h e =
-    let p2 = passed (not (seconds_known (up h.interval))) BadInterval _ (lit< tt) e in
-    let p3 = passed (not (within_of (pos 1) (lot_meant h.lot) (pos 1000000))) BadLot _ (lit< tt) p2.1 in
-    let p4 = passed (not (real_day h.date)) BadDate _ (lit< tt) p3.1 in
-    let p5 = passed (not (within_of (pos 1) h.quarters (pos 100))) BadQuarters None (lit< tt) p4.1 in
+    let p2 = passed (not (seconds_known (up h.interval))) BadInterval _ e in
+    let p3 = passed (not (within_of (pos 1) (lot_meant h.lot) (pos 1000000))) BadLot _ p2.1 in
+    let p4 = passed (not (real_day h.date)) BadDate _ p3.1 in
+    let p5 = passed (not (within_of (pos 1) h.quarters (pos 100))) BadQuarters (Ok tt) p4.1 in
     in-range 1 100 h.quarters (not-false (within_of (pos 1) h.quarters (pos 100)) p5.0)

@@ -8,10 +8,12 @@ use mathlib.Core.List.{List, [], ◌∷◌}
 use native.Mathlib.Omega.{arith}
 use lib.ListN.{length}
 use lib.IntN.{ℤ}
+use Rattle.std.specs.Prelude.{Ok, Err}
 use Rattle.vocabulary.specs.declared.sample.Sample.{Sample}
+use Rattle.vocabulary.specs.declared.refusal.Refusal.TheVariants.{WrongMoment, BadBlockLength}
 use Rattle.vocabulary.specs.declared.refusal.Refusal.{Refusal}
-use Rattle.vocabulary.specs.declared.refusal.Refusal.TheVariants.{None, WrongMoment, BadBlockLength}
-use Rattle.vocabulary.specs.Refusals.{accepted}
+use Rattle.vocabulary.proofs.Answers.{err-refused}
+use Rattle.vocabulary.specs.Refusals.{Ruling, accepted}
 use Rattle.vocabulary.specs.Sample.{power_in_range}
 use Rattle.claims.specs.Claims.{samples_of}
 use Rattle.settlement.specs.Calls.{take_refusal}
@@ -20,46 +22,30 @@ use Rattle.settlement.specs.Load.{or_lacking}
 use Rattle.settlement.specs.declared.run.Run.{Run}
 use Rattle.settlement.specs.Run.{sampled, sample_ground, answer_of, sampled_of, take_ground}
 use Rattle.settlement.specs.Many.{room_of, unless_refused, many_of}
-use Rattle.records.specs.Tape.{longer, sample_refusal, one_recorded}
-use Rattle.records.specs.declared.tape.Tape.{Tape}
-use Rattle.records.specs.declared.tape.Recorded.{Recorded}
-
--- a run with another tape
-abbrev with_tape : Run → Tape → Run
-with_tape run tape = record { plan = run.plan; books = run.books; past = run.past; load = run.load; tape = tape; account = run.account }
+use Rattle.records.specs.Tape.{longer, sample_refusal}
 
 -- WHAT A BLOCK ADDS: what is accepted beside it had nothing wrong without it; while it lacks setpoints nothing is
-pub accepted-before : (load : Load) (g : Refusal) → accepted (or_lacking load g) ≡ true → accepted g ≡ true
+pub accepted-before : (load : Load) (g : Ruling) → accepted (or_lacking load g) ≡ true → accepted g ≡ true
 accepted-before load g h = go (eqb load.left 0) (accepted g) refl h
   where
-    go : (b a : Bool) → accepted g ≡ a → accepted (cond b g (cond a BadBlockLength g)) ≡ true → a ≡ true
+    go : (b a : Bool) → accepted g ≡ a → accepted (cond b g (cond a (Err BadBlockLength) g)) ≡ true → a ≡ true
     go true a e h = sym e ∙ h
     go false true e h = refl
     go false false e h = sym e ∙ h
 
-pub lacking-refused : (load : Load) (g : Refusal) → eqb load.left 0 ≡ false → accepted (or_lacking load g) ≡ false
-lacking-refused load g e = ap (λ (b : Bool). accepted (cond b g (cond (accepted g) BadBlockLength g))) e ∙ go (accepted g) refl
+pub lacking-err : (load : Load) (refusal : Refusal) → or_lacking load (Err refusal) ≡ Err refusal
+lacking-err load refusal = rw (err-refused refusal) (go (eqb load.left 0))
   where
-    go : (a : Bool) → accepted g ≡ a → accepted (cond a BadBlockLength g) ≡ false
+    go : (b : Bool) → cond {A = Ruling} b (Err refusal) (Err refusal) ≡ Err refusal
+    go true = refl
+    go false = refl
+
+pub lacking-refused : (load : Load) (g : Ruling) → eqb load.left 0 ≡ false → accepted (or_lacking load g) ≡ false
+lacking-refused load g e = ap (λ (b : Bool). accepted (cond b g (cond (accepted g) (Err BadBlockLength) g))) e ∙ go (accepted g) refl
+  where
+    go : (a : Bool) → accepted g ≡ a → accepted (cond a (Err BadBlockLength) g) ≡ false
     go true e = refl
     go false e = e
-
--- what a sample makes of a run is what it makes of its tape, where a block lacks no setpoint
-module _ (run : Run) (x y : ℤ) {r : Recorded} {g : Refusal} (e : r ≡ one_recorded (samples_of run.past) run.account.taken run.plan.quarters run.tape x y)
-    (f : g ≡ or_lacking run.load r.refusal) where
-  pub one_kept : accepted g ≡ true → record { run = with_tape run r.tape; refusal = g } ≡ sampled_of run x y
-  unfolding one_recorded sampled_of sample_ground sampled
-  one_kept h =
-      let s = sample_refusal (samples_of run.past) run.tape.filled run.account.taken run.plan.quarters x y in
-      let f' = rw e at f in
-      let h' = rw f' at h in
-      rw (e, f', h', accepted-before run.load s h')
-
-  pub one-refused : accepted g ≡ false → record { run = run; refusal = g } ≡ sampled_of run x y
-  unfolding one_recorded sampled_of sample_ground sampled
-  one-refused h =
-      let f' = rw e at f in
-      rw (f', rw f' at h)
 
 -- WHAT THE ROOM SAYS: no block lacks a setpoint, a quarter hour is to come, and so many samples of it are
 record Roomy (run : Run) (m : ℕ) : Type 0 where
@@ -84,7 +70,7 @@ room-left run x y m h =
     let r = room-told run m h in
     rw (r.whole, r.coming) (omega (arith, r.places))
 
-pub none-refused : (run : Run) (x y : ℤ) (m : ℕ) → suc m ≤ room_of run → power_in_range x ≡ true → power_in_range y ≡ true → sample_ground run x y ≡ None
+pub none-refused : (run : Run) (x y : ℤ) (m : ℕ) → suc m ≤ room_of run → power_in_range x ≡ true → power_in_range y ≡ true → sample_ground run x y ≡ Ok tt
 unfolding sample_ground sample_refusal
 none-refused run x y m h p q =
     let r = room-told run m h in
@@ -92,7 +78,7 @@ none-refused run x y m h p q =
     rw (r.whole, lt-leb _ _ f, r.coming, p, q)
 
 -- while there is room, no quarter hour waits to be taken
-pub not_full : (run : Run) → 0 < room_of run → take_ground run ≡ WrongMoment
+pub not_full : (run : Run) → 0 < room_of run → take_ground run ≡ Err WrongMoment
 unfolding take_ground take_refusal
 not_full run h =
     let r = room-told run 0 h in
@@ -108,11 +94,11 @@ abbrev pub with_all : Run → List Sample → Run
 with_all run [] = run
 with_all run (s ∷ ss) = with_all (sampled run s.setpoint s.actual) ss
 
-pub all-taken : {ss : List Sample} (run : Run) → Ranged ss → length ss ≤ room_of run → many_of run ss ≡ record { run = with_all run ss; refusal = None }
+pub all-taken : {ss : List Sample} (run : Run) → Ranged ss → length ss ≤ room_of run → many_of run ss ≡ record { run = with_all run ss; refusal = Ok tt }
 unfolding many_of sampled_of
 all-taken run none h = refl
 all-taken run (more {s} {ss} p q r) h =
     let next = sampled run s.setpoint s.actual in
     let g = none-refused run s.setpoint s.actual (length ss) h p q in
-    ap (λ (x : Refusal). unless_refused (answer_of x next run) (many_of (answer_of x next run).run ss)) g
+    ap (λ (x : Ruling). unless_refused (answer_of x next run) (many_of (answer_of x next run).run ss)) g
     ∙ all-taken next r (room-left run s.setpoint s.actual (length ss) h)

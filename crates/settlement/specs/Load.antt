@@ -1,10 +1,9 @@
 -- The block that a run may start from, as far as it was given (docs/RULES.md, 'The start'), and why a call is refused for it.
-use Rattle.std.specs.Prelude.{◌-◌, Bool, true, false, cond, not, ◌&&◌, [], ◌∷◌, eqb, ℤ, pos}
+use Rattle.std.specs.Prelude.{◌-◌, Bool, true, false, cond, not, ◌&&◌, [], ◌∷◌, eqb, ℤ, pos, Err}
 use Rattle.arithmetic.specs.Whole.{within_of}
 use Rattle.arithmetic.specs.Power.{units_of}
-use Rattle.vocabulary.specs.declared.refusal.Refusal.{Refusal}
 use Rattle.vocabulary.specs.declared.refusal.Refusal.TheVariants.{WrongMoment, BadBlockLength, BadBlockValue}
-use Rattle.vocabulary.specs.Refusals.{accepted}
+use Rattle.vocabulary.specs.Refusals.{Ruling, accepted}
 use Rattle.vocabulary.specs.Grounds.{on, first}
 use Rattle.vocabulary.specs.declared.interval.Interval.{Interval}
 use Rattle.vocabulary.specs.Interval.{windows_of}
@@ -30,7 +29,7 @@ unfoldable pub between : Bounds → ℤ → Bool
 between bounds s = within_of bounds.uga.0 (units_of s) bounds.oga.0
 
 -- bounds: 1 where they don't come directly after the opening, 18 out of range
-unfoldable pub bounds_refusal : Bool → Load → Bounds → Refusal
+unfoldable pub bounds_refusal : Bool → Load → Bounds → Ruling
 bounds_refusal untouched load bounds =
     first
     (on WrongMoment (not untouched)
@@ -40,7 +39,7 @@ bounds_refusal untouched load bounds =
     ∷ [])
 
 -- a past setpoint: 1 neither in nor directly after a block, 17 one too many, 18 out of range, or the newest and not between UGA and OGA
-unfoldable pub setpoint_refusal : Bool → Load → ℤ → Refusal
+unfoldable pub setpoint_refusal : Bool → Load → ℤ → Ruling
 setpoint_refusal untouched load s =
     first
     (on WrongMoment (not untouched)
@@ -51,5 +50,5 @@ setpoint_refusal untouched load s =
     ∷ [])
 
 -- 17 also for a contract or a sample that nothing else is wrong with, while setpoints are still to come
-abbrev pub or_lacking : Load → Refusal → Refusal
-or_lacking load refusal = cond (eqb load.left 0) refusal (cond (accepted refusal) BadBlockLength refusal)
+abbrev pub or_lacking : Load → Ruling → Ruling
+or_lacking load ruling = cond (eqb load.left 0) ruling (cond (accepted ruling) (Err BadBlockLength) ruling)

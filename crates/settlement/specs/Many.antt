@@ -1,6 +1,5 @@
 -- Several samples at once: what `sample` makes of one after the other.
-use Rattle.std.specs.Prelude.{ℕ, ◌-◌, cond, List, [], ◌∷◌, eqb, leb}
-use Rattle.vocabulary.specs.declared.refusal.Refusal.TheVariants.{None}
+use Rattle.std.specs.Prelude.{ℕ, ◌-◌, cond, List, [], ◌∷◌, eqb, leb, Ok}
 use Rattle.vocabulary.specs.Refusals.{accepted}
 use Rattle.vocabulary.specs.declared.sample.Sample.{Sample}
 use Rattle.claims.specs.Claims.{samples_of}
@@ -17,6 +16,6 @@ abbrev pub unless_refused : Answer → Answer → Answer
 unless_refused answer next = cond (accepted answer.refusal) next answer
 
 unfoldable pub many_of : Run → List Sample → Answer
-many_of run [] = record { run = run; refusal = None }
+many_of run [] = record { run = run; refusal = Ok tt }
 many_of run (s ∷ ss) =
     unless_refused (sampled_of run s.setpoint s.actual) (many_of (sampled_of run s.setpoint s.actual).run ss)

@@ -1,9 +1,8 @@
 -- The run in its parts, and what each call makes of it: a call changes the parts it is about. A refusal hands the run back equal to what came in.
-use Rattle.std.specs.Prelude.{ℕ, Bool, cond, not, ◌&&◌, List, eqb, ℤ}
+use Rattle.std.specs.Prelude.{ℕ, Bool, cond, not, ◌&&◌, List, eqb, ℤ, Err}
 use Rattle.arithmetic.specs.Whole.{up}
-use Rattle.vocabulary.specs.declared.refusal.Refusal.{Refusal}
 use Rattle.vocabulary.specs.declared.refusal.Refusal.TheVariants.{WrongMoment}
-use Rattle.vocabulary.specs.Refusals.{accepted}
+use Rattle.vocabulary.specs.Refusals.{Ruling, accepted}
 use Rattle.vocabulary.specs.declared.interval.Interval.{Interval}
 use Rattle.vocabulary.specs.declared.interval.Interval.TheVariants.{One}
 use Rattle.vocabulary.specs.declared.contract.Contract.{Contract}
@@ -19,11 +18,11 @@ use Rattle.records.specs.Tape.{no_tape, longer, rewound, sample_refusal}
 use Rattle.records.specs.Account.{no_account, with_quarter}
 use Rattle.settlement.specs.declared.plan.Plan.{Plan}
 use Rattle.settlement.specs.declared.run.Run.{Run}
-use Rattle.settlement.specs.declared.run.Opened.{Opened}
 use Rattle.settlement.specs.declared.run.Answer.{Answer}
 use Rattle.settlement.specs.declared.run.Taken.{Taken}
 use Rattle.settlement.specs.declared.run.Ended.{Ended}
 use Rattle.settlement.specs.declared.run.Heading.{Heading}
+use Rattle.settlement.specs.Answers.{Opened}
 use Rattle.settlement.specs.Calls.{interval_of, open_refusal, end_refusal, unbegun, take_refusal}
 use Rattle.settlement.specs.Plan.{lot_meant, plan_of}
 use Rattle.settlement.specs.Load.{no_load, begun_with, one_fewer, bounds_refusal, setpoint_refusal, or_lacking}
@@ -46,7 +45,7 @@ unfoldable pub opened_of : Header → Opened
 opened_of h = record { run = cond (accepted (open_refusal h)) (run_of h) no_run; refusal = open_refusal h }
 
 -- what a call answers: the next run, or the one that came in with the refusal
-abbrev pub answer_of : Refusal → Run → Run → Answer
+abbrev pub answer_of : Ruling → Run → Run → Answer
 answer_of refusal next run = record { run = cond (accepted refusal) next run; refusal = refusal }
 
 -- ---- a block: the past and the load
@@ -57,7 +56,7 @@ untouched run =
     unbegun run.tape.filled run.account.taken run.plan.quarters && eqb run.books.positive.count 0 && eqb run.books.negative.count 0
 
 -- its bounds, directly after the opening
-unfoldable pub bounds_ground : Run → Bounds → Refusal
+unfoldable pub bounds_ground : Run → Bounds → Ruling
 bounds_ground run bounds = bounds_refusal (untouched run) run.load bounds
 
 unfoldable pub with_bounds : Run → Bounds → Run
@@ -72,7 +71,7 @@ unfoldable pub lacks_setpoints : Run → Bool
 lacks_setpoints run = not (eqb run.load.left 0)
 
 -- then its past setpoints, oldest first: the channel recalls each, and holds the block's bounds
-unfoldable pub setpoint_ground : Run → ℤ → Refusal
+unfoldable pub setpoint_ground : Run → ℤ → Ruling
 setpoint_ground run s = setpoint_refusal (untouched run) run.load s
 
 unfoldable pub with_setpoint : Run → ℤ → Run
@@ -92,12 +91,12 @@ with_setpoint_of run s = answer_of (setpoint_ground run s) (with_setpoint run s)
 -- ---- a contract: the books
 
 -- why a run refuses it: 1 first, then 6 to 12
-unfoldable pub contract_wrong : Run → Contract → List ℕ → Refusal
+unfoldable pub contract_wrong : Run → Contract → List ℕ → Ruling
 contract_wrong run c identifier =
-    cond (not (unbegun run.tape.filled run.account.taken run.plan.quarters)) WrongMoment (books_refusal run.books c identifier)
+    cond (not (unbegun run.tape.filled run.account.taken run.plan.quarters)) (Err WrongMoment) (books_refusal run.books c identifier)
 
 -- and then 17 in a block that lacks setpoints
-unfoldable pub contract_ground : Run → Contract → List ℕ → Refusal
+unfoldable pub contract_ground : Run → Contract → List ℕ → Ruling
 contract_ground run c identifier = or_lacking run.load (contract_wrong run c identifier)
 
 unfoldable pub contracted : Run → Contract → List ℕ → Run
@@ -109,7 +108,7 @@ contracted_of run c identifier = answer_of (contract_ground run c identifier) (c
 
 -- ---- a sample: the tape
 
-unfoldable pub sample_ground : Run → ℤ → ℤ → Refusal
+unfoldable pub sample_ground : Run → ℤ → ℤ → Ruling
 sample_ground run setpoint actual =
     or_lacking run.load (sample_refusal (samples_of run.past) run.tape.filled run.account.taken run.plan.quarters setpoint actual)
 
@@ -138,7 +137,7 @@ settled_of run quarter =
       account = with_quarter run.account quarter.sheets;
     }
 
-unfoldable pub take_ground : Run → Refusal
+unfoldable pub take_ground : Run → Ruling
 take_ground run = take_refusal (samples_of run.past) run.tape.filled run.account.taken run.plan.quarters
 
 unfoldable pub taken_of : Run → Taken

@@ -33,7 +33,7 @@ pub struct Bare {
 #[derive(Clone, Copy)]
 pub struct BareTaken {
     pub bare: Bare,
-    pub refusal: Refusal,
+    pub refusal: Result<(), Refusal>,
     pub quarter: u8,
     pub sheets: Sheets,
 }
@@ -43,25 +43,17 @@ impl Bare {
     pub fn whole(self, setpoints: &[i32; 900], actuals: &[i32; 900]) -> Run
         ensures { result ≡ whole_of self setpoints.now actuals.now }
     {
-        let plan = self.plan;
-        let books = self.books;
-        let past = self.past;
-        let load = self.load;
-        let account = self.account;
-        let asked = *setpoints;
-        let delivered = *actuals;
-        let tape = Tape {
-            setpoints: asked,
-            actuals: delivered,
-            filled: self.filled,
-        };
         Run {
-            plan: plan,
-            books: books,
-            past: past,
-            load: load,
-            tape: tape,
-            account: account,
+            plan: self.plan,
+            books: self.books,
+            past: self.past,
+            load: self.load,
+            tape: Tape {
+                setpoints: *setpoints,
+                actuals: *actuals,
+                filled: self.filled,
+            },
+            account: self.account,
         }
     }
 
@@ -69,11 +61,9 @@ impl Bare {
     pub fn room(self) -> usize
         ensures { (sp ac : List ℤ) → result ≡ room_of (whole_of self sp ac) }
     {
-        let past = self.past;
-        let samples = samples_of(past);
         places(
             self.load.left,
-            samples,
+            samples_of(self.past),
             self.filled,
             self.account.taken,
             self.plan.quarters,
@@ -84,11 +74,7 @@ impl Bare {
     fn settled(self, setpoints: &[i32; 900], actuals: &[i32; 900]) -> Settled
         ensures { result ≡ quarter_held self.past setpoints.now actuals.now self.books }
     {
-        let past = self.past;
-        let books = self.books;
-        let asked = *setpoints;
-        let delivered = *actuals;
-        quarter_hour(past, asked, delivered, books)
+        quarter_hour(self.past, *setpoints, *actuals, self.books)
     }
 
     // After a quarter hour: the channel led on, its fees and penalties added, room for the next samples.
@@ -96,14 +82,11 @@ impl Bare {
         requires { self.account.taken < 255 }
         ensures { result ≡ bare_after self quarter }
     {
-        let account = self.account;
-        let past = quarter.channel;
-        let sheets = quarter.sheets;
-        let mut more = account.with_sheets(sheets);
-        more.taken = account.taken + 1;
-        self.past = past;
+        let taken = self.account.taken + 1;
+        self.past = quarter.channel;
         self.filled = 0;
-        self.account = more;
+        self.account = self.account.with_sheets(quarter.sheets);
+        self.account.taken = taken;
         self
     }
 
@@ -111,25 +94,23 @@ impl Bare {
     pub fn take(self, setpoints: &[i32; 900], actuals: &[i32; 900]) -> BareTaken
         ensures { result ≡ bare_taken_of (taken_of (whole_of self setpoints.now actuals.now)) }
     {
-        let past = self.past;
-        let samples = samples_of(past);
-        let taken = self.account.taken;
-        let refusal = take_refusal(samples, self.filled, taken, self.plan.quarters);
-        if refusal.number() != 0 {
+        let quarter = self.account.taken;
+        let samples = samples_of(self.past);
+        let refusal = take_refusal(samples, self.filled, quarter, self.plan.quarters);
+        if refusal.is_err() {
             return BareTaken {
                 bare: self,
-                refusal: refusal,
-                quarter: taken,
+                refusal,
+                quarter,
                 sheets: no_sheets(),
             };
         }
-        let quarter = self.settled(setpoints, actuals);
-        let sheets = quarter.sheets;
+        let settled = self.settled(setpoints, actuals);
         BareTaken {
-            bare: self.after(quarter),
-            refusal: refusal,
-            quarter: taken,
-            sheets: sheets,
+            bare: self.after(settled),
+            refusal,
+            quarter,
+            sheets: settled.sheets,
         }
     }
 }

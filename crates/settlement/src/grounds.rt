@@ -11,86 +11,69 @@ use vocabulary::refusal::Refusal;
 fn seconds_known(seconds: u32) -> bool
     ensures { result ≡ seconds_known seconds }
 {
-    if seconds == 1 {
-        return true;
-    }
-    if seconds == 3 {
-        return true;
-    }
-    seconds == 4
+    matches!(seconds, 1 | 3 | 4)
 }
 
 // A header: what a run is opened for, and what a recording is mended for.
-pub fn open_refusal(header: Header) -> Refusal
+pub fn open_refusal(header: Header) -> Result<(), Refusal>
     ensures { result ≡ open_refusal header }
 {
     if !seconds_known(above_zero(header.interval)) {
-        return Refusal::BadInterval;
+        return Err(Refusal::BadInterval);
     }
-    let lot = header.lot;
-    if !within(1, lot_meant(lot), 1_000_000) {
-        return Refusal::BadLot;
+    if !within(1, lot_meant(header.lot), 1_000_000) {
+        return Err(Refusal::BadLot);
     }
-    let date = header.date;
-    if !date.is_real() {
-        return Refusal::BadDate;
+    if !header.date.is_real() {
+        return Err(Refusal::BadDate);
     }
     if !within(1, header.quarters, 100) {
-        return Refusal::BadQuarters;
+        return Err(Refusal::BadQuarters);
     }
-    Refusal::None
+    Ok(())
 }
+
+// The counts below are handed over one by one: a run and a bare run hold them in other places, and a struct would be made anew for each call.
 
 // Whether no sample was given yet, in a run that takes some.
 pub(crate) fn before_samples(filled: usize, taken: u8, quarters: u8) -> bool
     ensures { result ≡ unbegun filled taken quarters }
 {
-    if filled != 0 {
-        return false;
-    }
-    if taken != 0 {
-        return false;
-    }
-    quarters != 0
+    let untaken = taken == 0;
+    filled == 0 && untaken && quarters != 0
 }
 
 // Why taking is refused: no quarter hour waits.
-pub(crate) fn take_refusal(samples: usize, filled: usize, taken: u8, quarters: u8) -> Refusal
+pub(crate) fn take_refusal(
+    samples: usize,
+    filled: usize,
+    taken: u8,
+    quarters: u8,
+) -> Result<(), Refusal>
     ensures { (result ≡ take_refusal samples filled taken quarters) × ((number_of result ≡ 0 → taken < 255)) }
 {
-    if filled < samples {
-        return Refusal::WrongMoment;
+    if filled < samples || quarters <= taken {
+        return Err(Refusal::WrongMoment);
     }
-    if quarters <= taken {
-        return Refusal::WrongMoment;
-    }
-    Refusal::None
+    Ok(())
 }
 
 // How many samples a quarter hour still takes: none while a block lacks setpoints, and none after the last quarter hour.
 pub(crate) fn places(left: usize, samples: usize, filled: usize, taken: u8, quarters: u8) -> usize
     ensures { result ≡ cond (eqb left 0) (cond (leb quarters taken) 0 (samples - filled)) 0 }
 {
-    if left != 0 {
+    if left != 0 || taken >= quarters {
         return 0;
     }
-    if taken >= quarters {
-        return 0;
-    }
-    if samples <= filled {
-        return 0;
-    }
-    samples - filled
+    samples.saturating_sub(filled)
 }
 
-pub(crate) fn end_refusal(taken: u8, quarters: u8) -> Refusal
+pub(crate) fn end_refusal(taken: u8, quarters: u8) -> Result<(), Refusal>
     ensures { result ≡ end_refusal taken quarters }
 {
-    if quarters == 0 {
-        return Refusal::WrongMoment;
+    let missing = taken < quarters;
+    if quarters == 0 || missing {
+        return Err(Refusal::WrongMoment);
     }
-    if taken < quarters {
-        return Refusal::WrongMoment;
-    }
-    Refusal::None
+    Ok(())
 }

@@ -1,6 +1,5 @@
 // The block that a run may start from, as far as it was given: its bounds first, then as many past setpoints as the windows reach back.
 ghost use Rattle.std.specs.Prelude.{◌≡◌};
-ghost use Rattle.arithmetic.specs.Whole.{within_of};
 ghost use Rattle.channel.specs.Acceptable.{bound_in_range};
 ghost use Rattle.settlement.specs.Load.{no_load, begun_with, one_fewer, between, bounds_refusal, setpoint_refusal, or_lacking};
 
@@ -11,6 +10,7 @@ use vocabulary::refusal::Refusal;
 use vocabulary::sample::in_range;
 
 // Whether a block was begun, how many of its setpoints are still to come, and its bounds.
+// Stays a flag with values beside it: the contracts speak of each of its values, one with setpoints to come that was not begun among them.
 #[derive(Clone, Copy)]
 pub struct Load {
     pub begun: bool,
@@ -22,13 +22,12 @@ pub struct Load {
 pub(crate) fn no_load() -> Load
     ensures { result ≡ no_load }
 {
-    let zero = Units(0);
     Load {
         begun: false,
         left: 0,
         bounds: Bounds {
-            oga: zero,
-            uga: zero,
+            oga: Units(0),
+            uga: Units(0),
         },
     }
 }
@@ -37,108 +36,80 @@ pub(crate) fn no_load() -> Load
 pub(crate) fn begun_with(interval: Interval, bounds: Bounds) -> Load
     ensures { result ≡ begun_with interval bounds }
 {
-    let windows = interval.windows();
     Load {
         begun: true,
-        left: windows.to,
-        bounds: bounds,
+        left: interval.windows().to,
+        bounds,
     }
 }
 
 // Both ends count.
-fn lies_within(low: i64, n: i64, high: i64) -> bool
-    ensures { result ≡ within_of low n high }
-{
-    if low <= n {
-        return n <= high;
-    }
-    false
-}
-
 fn bound_in_range(bound: Units) -> bool
     ensures { result ≡ bound_in_range bound.0 }
 {
-    lies_within(-10_800_000_000, bound.0, 10_800_000_000)
+    -10_800_000_000 <= bound.0 && bound.0 <= 10_800_000_000
 }
 
 // Whether a setpoint lies between UGA and OGA.
 fn lies_between(bounds: Bounds, setpoint: i32) -> bool
     ensures { result ≡ between bounds setpoint }
 {
-    let oga = bounds.oga;
-    let uga = bounds.uga;
-    let units = in_units(setpoint);
-    lies_within(uga.0, units.0, oga.0)
+    let units = in_units(setpoint).0;
+    bounds.uga.0 <= units && units <= bounds.oga.0
 }
 
 impl Load {
     // Why bounds are refused: not directly after the opening, or out of range.
-    pub(crate) fn bounds_refusal(self, untouched: bool, bounds: Bounds) -> Refusal
+    pub(crate) fn bounds_refusal(self, untouched: bool, bounds: Bounds) -> Result<(), Refusal>
         ensures { result ≡ bounds_refusal untouched self bounds }
     {
-        if !untouched {
-            return Refusal::WrongMoment;
+        if !untouched || self.begun {
+            return Err(Refusal::WrongMoment);
         }
-        if self.begun {
-            return Refusal::WrongMoment;
+        if !bound_in_range(bounds.oga) || !bound_in_range(bounds.uga) {
+            return Err(Refusal::BadBlockValue);
         }
-        if !bound_in_range(bounds.oga) {
-            return Refusal::BadBlockValue;
-        }
-        if !bound_in_range(bounds.uga) {
-            return Refusal::BadBlockValue;
-        }
-        Refusal::None
+        Ok(())
     }
 
     // Why a past setpoint is refused: neither in nor directly after a block, one too many, out of range, or the newest and not between the bounds.
-    pub(crate) fn setpoint_refusal(self, untouched: bool, setpoint: i32) -> Refusal
+    pub(crate) fn setpoint_refusal(self, untouched: bool, setpoint: i32) -> Result<(), Refusal>
         ensures { result ≡ setpoint_refusal untouched self setpoint }
     {
-        if !untouched {
-            return Refusal::WrongMoment;
-        }
-        if !self.begun {
-            return Refusal::WrongMoment;
+        if !untouched || !self.begun {
+            return Err(Refusal::WrongMoment);
         }
         if self.left == 0 {
-            return Refusal::BadBlockLength;
+            return Err(Refusal::BadBlockLength);
         }
         if !in_range(setpoint) {
-            return Refusal::BadBlockValue;
+            return Err(Refusal::BadBlockValue);
         }
-        if self.left != 1 {
-            return Refusal::None;
+        let newest = self.left == 1;
+        if newest && !lies_between(self.bounds, setpoint) {
+            return Err(Refusal::BadBlockValue);
         }
-        let bounds = self.bounds;
-        if !lies_between(bounds, setpoint) {
-            return Refusal::BadBlockValue;
-        }
-        Refusal::None
+        Ok(())
     }
 
     // With one setpoint fewer to come.
-    pub(crate) fn one_fewer(mut self) -> Load
+    pub(crate) fn one_fewer(self) -> Load
         ensures { result ≡ one_fewer self }
     {
-        if self.left == 0 {
-            return self;
+        Load {
+            left: self.left.saturating_sub(1),
+            ..self
         }
-        self.left = self.left - 1;
-        self
     }
 
     // What is refused for nothing else is refused while setpoints are still to come.
-    pub(crate) fn or_lacking(self, refusal: Refusal) -> Refusal
-        ensures { result ≡ or_lacking self refusal }
+    pub(crate) fn lacking_refusal(self) -> Result<(), Refusal>
+        ensures { result ≡ or_lacking self (Ok tt) }
     {
-        let left = self.left;
-        if left == 0 {
-            return refusal;
+        if self.left != 0 {
+            Err(Refusal::BadBlockLength)
+        } else {
+            Ok(())
         }
-        if refusal.number() != 0 {
-            return refusal;
-        }
-        Refusal::BadBlockLength
     }
 }

@@ -5,7 +5,7 @@ ghost use Rattle.settlement.specs.Calls.{interval_of};
 ghost use Rattle.settlement.specs.Plan.{lot_meant, plan_of};
 
 use arithmetic::date::Date;
-use arithmetic::whole::{above_zero, least};
+use arithmetic::whole::above_zero;
 use vocabulary::header::{Header, Lot};
 use vocabulary::interval::Interval;
 
@@ -19,20 +19,18 @@ pub struct Plan {
 pub fn interval_of(seconds: u32) -> Interval
     ensures { result ≡ interval_of seconds }
 {
-    if seconds == 1 {
-        return Interval::One;
+    match seconds {
+        1 => Interval::One,
+        3 => Interval::Three,
+        _ => Interval::Four,
     }
-    if seconds == 3 {
-        return Interval::Three;
-    }
-    Interval::Four
 }
 
 // A small count as a u8.
 fn count_of(n: i32) -> u8
     ensures { result ≡ least_of (up n) 255 }
 {
-    least(above_zero(n) as u64, 255) as u8
+    above_zero(n).min(255) as u8
 }
 
 // The lot that is used, in kW: 5,000 where it is left blank.
@@ -49,9 +47,8 @@ pub(crate) fn lot_meant(lot: Lot) -> i32
 pub(crate) fn plan_of(header: Header) -> Plan
     ensures { result ≡ plan_of header }
 {
-    let date = header.date;
     Plan {
-        date: date,
+        date: header.date,
         quarters: count_of(header.quarters),
     }
 }

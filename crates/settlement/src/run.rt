@@ -1,11 +1,12 @@
 // A run: one stretch of quarter hours with its contracts. It goes into each call by value and comes back, with the refusal.
 ghost use Rattle.std.specs.Prelude.{◌≡◌};
+ghost use Rattle.vocabulary.specs.Refusals.{allowed};
 ghost use Rattle.records.specs.Account.{no_account};
-ghost use Rattle.records.specs.Tape.{no_tape};
+ghost use Rattle.records.specs.Tape.{no_tape, longer};
 ghost use Rattle.settlement.specs.Bare.{bare_of};
 ghost use Rattle.settlement.specs.Many.{room_of};
 ghost use Rattle.settlement.specs.Run.{fresh_run, no_run, run_of, opened_of, untouched, lacks_setpoints, with_setpoint, with_bounds_of};
-ghost use Rattle.settlement.specs.Run.{with_setpoint_of, contract_wrong, contracted_of, sampled_of, taken_of, ended_of, heading_of};
+ghost use Rattle.settlement.specs.Run.{with_setpoint_of, contract_wrong, contract_ground, contracted_of, sample_ground, sampled_of, taken_of, ended_of, heading_of};
 
 use crate::bare::Bare;
 use crate::grounds::{before_samples, end_refusal, open_refusal};
@@ -39,25 +40,18 @@ pub struct Run {
     pub(crate) account: Account,
 }
 
-// What opening answers. A refused opening gives no run: what stands in its place has no quarter hour and refuses every call.
-#[derive(Clone, Copy)]
-pub struct Opened {
-    pub run: Run,
-    pub refusal: Refusal,
-}
-
 // What a call answers; the run of a refused call is the one that came in.
 #[derive(Clone, Copy)]
 pub struct Answer {
     pub run: Run,
-    pub refusal: Refusal,
+    pub refusal: Result<(), Refusal>,
 }
 
 // What taking answers: the quarter hour's number from 0, and its figures in both directions; nothing in them where it is refused.
 #[derive(Clone, Copy)]
 pub struct Taken {
     pub run: Run,
-    pub refusal: Refusal,
+    pub refusal: Result<(), Refusal>,
     pub quarter: u8,
     pub sheets: Sheets,
 }
@@ -66,7 +60,7 @@ pub struct Taken {
 #[derive(Clone, Copy)]
 pub struct Ended {
     pub run: Run,
-    pub refusal: Refusal,
+    pub refusal: Result<(), Refusal>,
     pub quarters: u8,
     pub fees: Cents,
     pub penalties: Cents,
@@ -85,11 +79,9 @@ pub struct Heading {
 fn no_tape() -> Tape
     ensures { result ≡ no_tape }
 {
-    let setpoints = [0i32; 900];
-    let actuals = [0i32; 900];
     Tape {
-        setpoints: setpoints,
-        actuals: actuals,
+        setpoints: [0; 900],
+        actuals: [0; 900],
         filled: 0,
     }
 }
@@ -109,35 +101,14 @@ fn no_account() -> Account
 fn fresh(plan: Plan, interval: Interval, lot: u32) -> Run
     ensures { result ≡ fresh_run plan interval lot }
 {
-    let books = Books::new();
-    let past = Channel::new(interval, lot);
-    let load = no_load();
-    let tape = no_tape();
-    let account = no_account();
     Run {
-        plan: plan,
-        books: books,
-        past: past,
-        load: load,
-        tape: tape,
-        account: account,
+        plan,
+        books: Books::new(),
+        past: Channel::new(interval, lot),
+        load: no_load(),
+        tape: no_tape(),
+        account: no_account(),
     }
-}
-
-// What stands where an opening gives no run.
-fn no_run() -> Run
-    ensures { result ≡ no_run }
-{
-    let day = Date {
-        year: 2000,
-        month: 1,
-        day: 1,
-    };
-    let plan = Plan {
-        date: day,
-        quarters: 0,
-    };
-    fresh(plan, Interval::One, 1)
 }
 
 // The run of a header that is not refused.
@@ -145,77 +116,68 @@ fn run_of(header: Header) -> Run
     ensures { result ≡ run_of header }
 {
     let interval = interval_of(above_zero(header.interval));
-    let lot = header.lot;
-    let kw = above_zero(lot_meant(lot));
-    fresh(plan_of(header), interval, kw)
+    let lot = above_zero(lot_meant(header.lot));
+    fresh(plan_of(header), interval, lot)
 }
 
 impl Run {
-    pub fn open(header: Header) -> Opened
-        ensures { result ≡ opened_of header }
+    // What stands where an opening gives no run: it has no quarter hour and refuses every call.
+    pub fn unopened() -> Run
+        ensures { result ≡ no_run }
     {
-        let refusal = open_refusal(header);
-        if refusal.number() != 0 {
-            return Opened {
-                run: no_run(),
-                refusal: refusal,
-            };
-        }
-        Opened {
-            run: run_of(header),
-            refusal: refusal,
-        }
+        let date = Date {
+            year: 2000,
+            month: 1,
+            day: 1,
+        };
+        fresh(Plan { date, quarters: 0 }, Interval::One, 1)
+    }
+
+    // A refused opening gives no run.
+    pub fn open(header: Header) -> Result<Run, Refusal>
+        ensures { result ≡ allowed (opened_of header).refusal (opened_of header).run }
+    {
+        open_refusal(header)?;
+        Ok(run_of(header))
     }
 
     // The contracts of both directions.
     pub fn books(self) -> Books
         ensures { result ≡ self.books }
     {
-        let all = self.books;
-        all
+        let Run { books, .. } = self;
+        books
     }
 
     // Whether neither a contract nor a sample came yet, in a run that takes some.
     fn is_untouched(self) -> bool
         ensures { result ≡ untouched self }
     {
-        if !before_samples(self.tape.filled, self.account.taken, self.plan.quarters) {
-            return false;
-        }
-        let books = self.books;
-        if books.book(Direction::Positive).count() != 0 {
-            return false;
-        }
-        books.book(Direction::Negative).count() == 0
+        before_samples(self.tape.filled, self.account.taken, self.plan.quarters)
+            && self.books.book(Direction::Positive).count() == 0
+            && self.books.book(Direction::Negative).count() == 0
     }
 
     // A block to start from begins with its bounds, directly after the opening.
     pub fn bounds(mut self, bounds: Bounds) -> Answer
         ensures { result ≡ with_bounds_of self bounds }
     {
-        let load = self.load;
-        let refusal = load.bounds_refusal(self.is_untouched(), bounds);
-        if refusal.number() == 0 {
-            let past = self.past;
-            self.load = begun_with(past.interval(), bounds);
+        let refusal = self.load.bounds_refusal(self.is_untouched(), bounds);
+        if refusal.is_ok() {
+            self.load = begun_with(self.past.interval(), bounds);
         }
-        Answer {
-            run: self,
-            refusal: refusal,
-        }
+        Answer { run: self, refusal }
     }
 
     // With a past setpoint more: the channel recalls it, and holds the block's bounds.
     fn recalling(mut self, setpoint: i32) -> Run
         ensures { result ≡ with_setpoint self setpoint }
     {
-        let load = self.load;
-        let bounds = load.bounds;
-        let past = self.past;
-        let recalled = past.recalled(setpoint);
+        let bounds = self.load.bounds;
+        let recalled = self.past.recalled(setpoint);
         let bounded = recalled.bounded(bounds.oga, bounds.uga);
         self.past = bounded;
-        self.load = load.one_fewer();
+        self.load = self.load.one_fewer();
         self
     }
 
@@ -223,78 +185,82 @@ impl Run {
     pub fn lacks(self) -> bool
         ensures { result ≡ lacks_setpoints self }
     {
-        let load = self.load;
-        load.left != 0
+        self.load.left != 0
     }
 
     // Its past setpoints follow, oldest first.
     pub fn setpoint(self, setpoint: i32) -> Answer
         ensures { result ≡ with_setpoint_of self setpoint }
     {
-        let load = self.load;
-        let refusal = load.setpoint_refusal(self.is_untouched(), setpoint);
-        if refusal.number() != 0 {
-            return Answer {
-                run: self,
-                refusal: refusal,
-            };
+        let refusal = self.load.setpoint_refusal(self.is_untouched(), setpoint);
+        if refusal.is_err() {
+            return Answer { run: self, refusal };
         }
         Answer {
             run: self.recalling(setpoint),
-            refusal: refusal,
+            refusal,
         }
     }
 
     // What is wrong with a contract but for a block: the moment, then what the lists of both directions say.
-    fn contract_wrong(self, contract: Contract, identifier: &[u8]) -> Refusal
+    fn contract_wrong(self, contract: Contract, identifier: &[u8]) -> Result<(), Refusal>
         ensures { result ≡ contract_wrong self contract identifier.now }
     {
         if !before_samples(self.tape.filled, self.account.taken, self.plan.quarters) {
-            return Refusal::WrongMoment;
+            return Err(Refusal::WrongMoment);
         }
-        let books = self.books;
-        books.refusal(contract, identifier)
+        self.books.refusal(contract, identifier)
+    }
+
+    // And then a block that lacks setpoints.
+    fn contract_refusal(self, contract: Contract, identifier: &[u8]) -> Result<(), Refusal>
+        ensures { result ≡ contract_ground self contract identifier.now }
+    {
+        self.contract_wrong(contract, identifier)?;
+        self.load.lacking_refusal()
     }
 
     // One contract more in its direction, with its identifier beside it.
     pub fn contract(mut self, contract: Contract, identifier: &[u8]) -> Answer
         ensures { result ≡ contracted_of self contract identifier.now }
     {
-        let load = self.load;
-        let refusal = load.or_lacking(self.contract_wrong(contract, identifier));
-        if refusal.number() == 0 {
-            let books = self.books;
-            let longer = books.with(contract, identifier);
-            self.books = longer;
+        let refusal = self.contract_refusal(contract, identifier);
+        if refusal.is_ok() {
+            self.books = self.books.with(contract, identifier);
         }
-        Answer {
-            run: self,
-            refusal: refusal,
-        }
+        Answer { run: self, refusal }
+    }
+
+    // The tape with one sample more: what is wrong with the sample comes first, and then a block that lacks setpoints.
+    fn longer_tape(self, sample: Sample) -> Result<Tape, Refusal>
+        ensures { result ≡ allowed (sample_ground self sample.setpoint sample.actual) (longer self.tape sample.setpoint sample.actual) }
+    {
+        let longer = self.tape.with_sample(
+            self.past.interval(),
+            self.account.taken,
+            self.plan.quarters,
+            sample,
+        )?;
+        self.load.lacking_refusal()?;
+        Ok(longer)
     }
 
     // One sample more of the quarter hour at hand.
     pub fn sample(mut self, sample: Sample) -> Answer
         ensures { result ≡ sampled_of self sample.setpoint sample.actual }
     {
-        let past = self.past;
-        let tape = self.tape;
-        let recorded = tape.with_sample(
-            past.interval(),
-            self.account.taken,
-            self.plan.quarters,
-            sample,
-        );
-        let ground = recorded.refusal;
-        let load = self.load;
-        let refusal = load.or_lacking(ground);
-        if refusal.number() == 0 {
-            let longer = recorded.tape;
-            self.tape = longer;
-        }
-        Answer {
-            run: self,
-            refusal: refusal,
+        match self.longer_tape(sample) {
+            Ok(tape) => {
+                self.tape = tape;
+                Answer {
+                    run: self,
+                    refusal: Ok(()),
+                }
+            }
+            Err(refusal) => Answer {
+                run: self,
+                refusal: Err(refusal),
+            },
         }
     }
 
@@ -302,18 +268,13 @@ impl Run {
     fn bared(self) -> Bare
         ensures { result ≡ bare_of self }
     {
-        let plan = self.plan;
-        let books = self.books;
-        let past = self.past;
-        let load = self.load;
-        let account = self.account;
         Bare {
-            plan: plan,
-            books: books,
-            past: past,
-            load: load,
+            plan: self.plan,
+            books: self.books,
+            past: self.past,
+            load: self.load,
             filled: self.tape.filled,
-            account: account,
+            account: self.account,
         }
     }
 
@@ -322,9 +283,9 @@ impl Run {
         ensures rest { result ≡ bare_of self }
         ensures powers { (setpoints.new ≡ self.tape.setpoints) × (actuals.new ≡ self.tape.actuals) }
     {
-        let tape = self.tape;
-        let asked = tape.setpoints;
-        let delivered = tape.actuals;
+        // an array goes from a field to another place by way of a variable
+        let asked = self.tape.setpoints;
+        let delivered = self.tape.actuals;
         *setpoints = asked;
         *actuals = delivered;
         self.bared()
@@ -341,18 +302,14 @@ impl Run {
     pub fn take(self) -> Taken
         ensures { result ≡ taken_of self }
     {
-        let tape = self.tape;
-        let setpoints = tape.setpoints;
-        let actuals = tape.actuals;
+        let setpoints = self.tape.setpoints;
+        let actuals = self.tape.actuals;
         let taken = self.bared().take(&setpoints, &actuals);
-        let after = taken.bare;
-        let refusal = taken.refusal;
-        let sheets = taken.sheets;
         Taken {
-            run: after.whole(&setpoints, &actuals),
-            refusal: refusal,
+            run: taken.bare.whole(&setpoints, &actuals),
+            refusal: taken.refusal,
             quarter: taken.quarter,
-            sheets: sheets,
+            sheets: taken.sheets,
         }
     }
 
@@ -360,31 +317,23 @@ impl Run {
     pub fn end(self) -> Ended
         ensures { result ≡ ended_of self }
     {
-        let account = self.account;
-        let fees = account.fees;
-        let penalties = account.penalties;
-        let refusal = end_refusal(account.taken, self.plan.quarters);
-        let past = self.past;
         Ended {
             run: self,
-            refusal: refusal,
-            quarters: account.taken,
-            fees: fees,
-            penalties: penalties,
-            past: past,
+            refusal: end_refusal(self.account.taken, self.plan.quarters),
+            quarters: self.account.taken,
+            fees: self.account.fees,
+            penalties: self.account.penalties,
+            past: self.past,
         }
     }
 
     pub fn heading(self) -> Heading
         ensures { result ≡ heading_of self }
     {
-        let date = self.plan.date;
-        let past = self.past;
-        let interval = past.interval();
         Heading {
-            date: date,
-            interval: interval,
-            lot: past.lot(),
+            date: self.plan.date,
+            interval: self.past.interval(),
+            lot: self.past.lot(),
         }
     }
 }

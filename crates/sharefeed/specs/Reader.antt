@@ -6,7 +6,6 @@ use Rattle.lines.specs.declared.Gatherer.{Gatherer}
 use Rattle.lines.specs.declared.Gathered.{Gathered}
 use Rattle.judging.specs.Kept.{Kept}
 use Rattle.checking.specs.Checker.{Standing, standing, empty_checker, line_turn, finish_text}
-use Rattle.checking.specs.declared.checker.Checker.{Checker}
 use Rattle.sharefeed.specs.declared.Reader.{Reader}
 
 -- before the input
@@ -31,9 +30,6 @@ printed_for kept input =
     finish_text (feed_of (progress empty_reader kept) input).state (feed_of (progress empty_reader kept) input).gatherer.count
 
 -- ---- a part of a call, as the code has it
-
-abbrev pub reading : Gatherer → Checker → Reader
-reading gatherer checker = record { gatherer = gatherer; checker = checker }
 
 -- after some bytes: a complete line is handed out, or the line at hand is longer
 abbrev pub after_part : Standing → Gathered → Progress Standing

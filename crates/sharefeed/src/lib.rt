@@ -1,15 +1,16 @@
 // Blocks of an input for the checker of shares, in constant memory, however the input is cut. Nothing is printed before its end, so a call reads its whole block.
 #![tactic(auto)]
 
-ghost use Rattle.std.specs.Prelude.{◌≡◌, List, ℕ, ◌≤◌, length, take};
+ghost use Rattle.std.specs.Prelude.{◌≡◌, take};
 ghost use Rattle.lines.specs.Handing.{held_by, handed};
-ghost use Rattle.judging.specs.Kept.{keeping};
+ghost use Rattle.judging.specs.Kept.{kept_in, SameLists};
 ghost use Rattle.checking.specs.Checker.{standing, line_turn, stopped_at, Told, finish_text};
-ghost use Rattle.sharefeed.specs.Reader.{empty_reader, progress, handled, feed_of, reading, after_part};
+ghost use Rattle.sharefeed.specs.Reader.{empty_reader, progress, handled, feed_of, after_part};
 
 use checking::checker::Checker;
+use judging::kept::Kept;
 use lines::{Gathered, Gatherer};
-use sheets::Printed;
+use vocabulary::refusal::Refusal;
 
 // The line at hand, and the checker.
 #[derive(Clone, Copy)]
@@ -18,53 +19,23 @@ pub struct Reader {
     checker: Checker,
 }
 
-// So many bytes, or all that there are.
-fn at_most(kept: usize, all: usize) -> usize
-    ensures { (result ≤ all) × ((bytes : List ℕ) → length bytes ≡ all → take result bytes ≡ take kept bytes) }
-{
-    if kept < all {
-        return kept;
-    }
-    all
-}
-
 // A line of which so many bytes are kept.
-fn told(
-    checker: Checker,
-    number: u64,
-    bytes: &[u8],
-    kept: usize,
-    gaps: &mut [[u32; 32]],
-    surpluses: &mut [u32],
-    shares: &mut [i32],
-) -> Checker
-    ensures { line_turn (standing checker (keeping gaps.old surpluses.old shares.old)) number (take kept bytes.now)
-        ≡ standing result (keeping gaps.new surpluses.new shares.new) }
+fn told(checker: &mut Checker, number: u64, bytes: &[u8], length: usize, kept: &mut Kept)
+    ensures same { SameLists kept.old kept.new }
+    ensures is { line_turn (standing checker.old (kept_in kept.old)) number (take length bytes.now)
+        ≡ standing checker.new (kept_in kept.new) }
 {
-    let kept = at_most(kept, bytes.len());
-    checker.line(number, &bytes[..kept], gaps, surpluses, shares)
+    let end = length.min(bytes.len());
+    checker.line(number, &bytes[..end], kept);
 }
 
-fn served(
-    checker: Checker,
-    gatherer: Gatherer,
-    gaps: &mut [[u32; 32]],
-    surpluses: &mut [u32],
-    shares: &mut [i32],
-) -> Checker
-    ensures { line_turn (standing checker (keeping gaps.old surpluses.old shares.old)) gatherer.count (held_by gatherer)
-        ≡ standing result (keeping gaps.new surpluses.new shares.new) }
+fn served(checker: &mut Checker, held: Gatherer, kept: &mut Kept)
+    ensures same { SameLists kept.old kept.new }
+    ensures is { line_turn (standing checker.old (kept_in kept.old)) held.count (held_by held)
+        ≡ standing checker.new (kept_in kept.new) }
 {
-    let bytes = gatherer.bytes();
-    told(
-        checker,
-        gatherer.count(),
-        &bytes,
-        gatherer.length(),
-        gaps,
-        surpluses,
-        shares,
-    )
+    let bytes = held.bytes();
+    told(checker, held.count(), &bytes, held.length(), kept);
 }
 
 impl Reader {
@@ -72,7 +43,10 @@ impl Reader {
     pub fn new() -> Reader
         ensures { result ≡ empty_reader }
     {
-        Reader::with(Gatherer::new(), Checker::new())
+        Reader {
+            gatherer: Gatherer::new(),
+            checker: Checker::new(),
+        }
     }
 
     // Whether a line was refused: then nothing is read any more.
@@ -82,81 +56,48 @@ impl Reader {
         self.checker.is_stopped()
     }
 
-    fn with(gatherer: Gatherer, checker: Checker) -> Reader
-        ensures { result ≡ reading gatherer checker }
-    {
-        Reader {
-            gatherer: gatherer,
-            checker: checker,
-        }
-    }
-
     // A line is complete: the checker takes it.
-    fn ended(
-        self,
-        held: Gatherer,
-        gaps: &mut [[u32; 32]],
-        surpluses: &mut [u32],
-        shares: &mut [i32],
-    ) -> Reader
-        ensures { handed handled (standing self.checker (keeping gaps.old surpluses.old shares.old)) held
-            ≡ progress result (keeping gaps.new surpluses.new shares.new) }
+    fn ended(&mut self, held: Gatherer, kept: &mut Kept)
+        ensures same { SameLists kept.old kept.new }
+        ensures is { handed handled (standing self.old.checker (kept_in kept.old)) held
+            ≡ progress self.new (kept_in kept.new) }
     {
-        let after = served(self.checker, held, gaps, surpluses, shares);
-        Reader::with(held.fresh(), after)
+        served(&mut self.checker, held, kept);
+        self.gatherer = held.fresh();
     }
 
     // After some bytes of a block, up to the next line end or to the end of the block.
-    fn after(
-        self,
-        part: Gathered,
-        gaps: &mut [[u32; 32]],
-        surpluses: &mut [u32],
-        shares: &mut [i32],
-    ) -> Reader
-        ensures { after_part (standing self.checker (keeping gaps.old surpluses.old shares.old)) part
-            ≡ progress result (keeping gaps.new surpluses.new shares.new) }
+    fn after(&mut self, part: Gathered, kept: &mut Kept)
+        ensures same { SameLists kept.old kept.new }
+        ensures is { after_part (standing self.old.checker (kept_in kept.old)) part
+            ≡ progress self.new (kept_in kept.new) }
     {
-        let at_hand = part.gatherer;
         if part.complete {
-            return self.ended(at_hand, gaps, surpluses, shares);
+            self.ended(part.gatherer, kept);
+        } else {
+            self.gatherer = part.gatherer;
         }
-        Reader::with(at_hand, self.checker)
     }
 
     // A block of the input, all of it.
-    pub fn feed(
-        self,
-        block: &[u8],
-        gaps: &mut [[u32; 32]],
-        surpluses: &mut [u32],
-        shares: &mut [i32],
-    ) -> Reader
-        ensures { feed_of (progress self (keeping gaps.old surpluses.old shares.old)) block.now
-            ≡ progress result (keeping gaps.new surpluses.new shares.new) }
+    pub fn feed(&mut self, block: &[u8], kept: &mut Kept)
+        ensures same { SameLists kept.old kept.new }
+        ensures is { feed_of (progress self.old (kept_in kept.old)) block.now
+            ≡ progress self.new (kept_in kept.new) }
     {
-        let mut reader = self;
         let mut i = 0;
         while i < block.len() {
-            let part = reader.gatherer.gather(&block[i..]);
-            reader = reader.after(part, gaps, surpluses, shares);
+            let part = self.gatherer.gather(&block[i..]);
+            self.after(part, kept);
             i += part.used;
         }
-        reader
     }
 
     // The input ended: what is printed.
-    pub fn finish(
-        self,
-        gaps: &[[u32; 32]],
-        surpluses: &[u32],
-        shares: &[i32],
-        out: &mut [u8],
-    ) -> Printed
+    pub fn finish(self, kept: &Kept, out: &mut [u8]) -> Result<usize, Refusal>
         ensures { Told out.old
-            (finish_text (standing self.checker (keeping gaps.now surpluses.now shares.now)) self.gatherer.count) result out.new }
+            (finish_text (standing self.checker (kept_in kept.now)) self.gatherer.count) result out.new }
     {
-        let count = self.gatherer.count();
-        self.checker.finish(count, gaps, surpluses, shares, out)
+        self.checker.finish(self.gatherer.count(), kept, out)
     }
 }

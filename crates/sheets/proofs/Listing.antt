@@ -14,6 +14,7 @@ use Rattle.contracts.specs.declared.book.Awarded.{Awarded}
 use Rattle.quarter.specs.declared.sheet.Pool.{Pool}
 use Rattle.quarter.specs.declared.sheet.Figures.{Figures}
 use Rattle.quarter.specs.declared.sheet.Sheet.{Sheet}
+use Rattle.std.proofs.Common.{Err}
 use Rattle.vocabulary.specs.declared.refusal.Refusal.TheVariants.{NoEnd}
 
 abbrev cents : ℕ → Cents
@@ -81,6 +82,6 @@ unfolding block_text bounds_text setpoints_text setpoint_text line_text tabbed n
 listing-block = refl
 
 -- empty input
-pub listing-refusal : refusal_text 1 NoEnd ≡ 82 ∷ 9 ∷ 49 ∷ 9 ∷ 49 ∷ 53 ∷ 10 ∷ []
+pub listing-refusal : refusal_text 1 (Err NoEnd) ≡ 82 ∷ 9 ∷ 49 ∷ 9 ∷ 49 ∷ 53 ∷ 10 ∷ []
 unfolding refusal_text line_text tabbed digits digits_in
 listing-refusal = refl

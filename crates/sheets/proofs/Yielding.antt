@@ -7,8 +7,7 @@ use mathlib.Core.List.{List}
 use native.Mathlib.Omega.{arith}
 use borrow.Author.Tests.{le-ltb, lt-ltb}
 use lib.ListN.{length, drop, length-drop, length-append}
-use Rattle.sheets.specs.Buffer.{length_of, over, Yields}
-use Rattle.sheets.specs.declared.Printed.{Printed}
+use Rattle.sheets.specs.Buffer.{Printed, length_of, over, Yields}
 
 pub over-length : (text out : List ℕ) → length text ≤ length out → length (over text out) ≡ length out
 over-length text out h = length-append text (drop (length text) out) ∙ (let l : length (drop (length text) out) ≡ length out - length text = length-drop (length text) out in omega arith)

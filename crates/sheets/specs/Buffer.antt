@@ -1,21 +1,26 @@
 -- What a call that prints answers, and what it leaves of the lent buffer (docs/RULES.md, 'Calls').
-use Rattle.std.specs.Prelude.{ℕ, ◌≤◌, ◌≡◌, cond, List, ◌++◌, leb, ltb, length, drop}
-use Rattle.sheets.specs.declared.Printed.{Printed}
-use Rattle.sheets.specs.declared.Printed.TheVariants.{Length, TooShort}
+use Rattle.std.specs.Prelude.{ℕ, ◌≤◌, ◌≡◌, cond, List, ◌++◌, leb, ltb, length, drop, Result, Ok, Err}
+use Rattle.std.specs.Result.{result_unwrap_or}
+use Rattle.vocabulary.specs.declared.refusal.Refusal.{Refusal}
+use Rattle.vocabulary.specs.declared.refusal.Refusal.TheVariants.{BufferTooShort}
+use Rattle.vocabulary.specs.Refusals as refusals
 
 -- no text that is printed at once is longer
 abbrev pub buffer_length : ℕ
 buffer_length = 16384
 
+-- what a call that prints answers: the length of its text, or why nothing was printed
+abbrev pub Printed : Type 0
+Printed = Result ℕ Refusal
+
 -- 16 where the buffer is shorter than the text, and 0 where nothing is refused
 abbrev pub number_of : Printed → ℕ
-number_of (Length length) = 0
-number_of TooShort = 16
+number_of (Ok length) = 0
+number_of (Err refusal) = refusals.number_of (Err refusal)
 
 -- how many bytes were printed
 abbrev pub length_of : Printed → ℕ
-length_of (Length n) = n
-length_of TooShort = 0
+length_of printed = result_unwrap_or printed 0
 
 -- a text at a buffer's start, and the bytes after it as they were
 abbrev pub over : List ℕ → List ℕ → List ℕ
@@ -23,7 +28,7 @@ over text buffer = text ++ drop (length text) buffer
 
 -- the text's length, where the buffer has room for it
 abbrev pub print_answer : List ℕ → List ℕ → Printed
-print_answer buffer text = cond (leb (length text) (length buffer)) (Length (length text)) TooShort
+print_answer buffer text = cond (leb (length text) (length buffer)) (Ok (length text)) (Err BufferTooShort)
 
 -- the text at the buffer's start and the bytes after it as they were; where there is no room, every byte as it was
 abbrev pub print_into : List ℕ → List ℕ → List ℕ

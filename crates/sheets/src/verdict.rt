@@ -4,9 +4,10 @@ ghost use Rattle.sheets.specs.Verdict.{accepted_text, failing_text, verdict_text
 ghost use Rattle.sheets.specs.Buffer.{print_answer, print_into};
 ghost use Rattle.sheets.specs.Putting.{WroteUpTo};
 
-use crate::{Printed, put_start};
+use crate::{put_start, refused_or_written};
 use print::{put, put_field, put_line_end};
 use vocabulary::direction::Direction;
+use vocabulary::refusal::Refusal;
 
 // Accepted, with the number of quarter hours; or the first quarter hour and direction that does not hold.
 #[derive(Clone, Copy)]
@@ -19,7 +20,7 @@ fn put_accepted(buf: &mut [u8], at: usize, quarters: u8) -> usize
     ensures { WroteUpTo 23 buf.old at (accepted_text quarters) result buf.new }
 {
     let count = put(buf, at, b'A');
-    let end = put_field(buf, count, quarters as u64);
+    let end = put_field(buf, count, u64::from(quarters));
     put_line_end(buf, end)
 }
 
@@ -40,15 +41,10 @@ fn put_verdict(buf: &mut [u8], at: usize, verdict: Verdict) -> usize
 }
 
 // The A or the F line.
-pub fn print_verdict(buf: &mut [u8], verdict: Verdict) -> Printed
+pub fn print_verdict(buf: &mut [u8], verdict: Verdict) -> Result<usize, Refusal>
     ensures answer { result ≡ print_answer buf.old (verdict_text verdict) }
     ensures bytes { buf.new ≡ print_into buf.old (verdict_text verdict) }
     ensures room { length (verdict_text verdict) ≤ 128 }
 {
-    let mut measure = [0u8; 1];
-    let length = put_verdict(&mut measure, 0, verdict);
-    if buf.len() < length {
-        return Printed::TooShort;
-    }
-    Printed::Length(put_verdict(buf, 0, verdict))
+    refused_or_written(buf, |to| put_verdict(to, 0, verdict))
 }

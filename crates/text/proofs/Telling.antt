@@ -1,22 +1,23 @@
 -- How a call's answer and bytes tell a turn.
-use Rattle.std.proofs.Common.{◌≡◌, ℕ, ◌+◌, ◌%◌, ◌^◌, ◌<◌, ◌≤◌, Bool, true, false, cond, List, length, ℤ, sym, refl, ap, ◌∙◌, subst, arith, le-leb}
+use Rattle.std.proofs.Common.{◌≡◌, ℕ, ◌+◌, ◌%◌, ◌^◌, ◌<◌, ◌≤◌, Bool, true, false, cond, List, length, ℤ, Ok, Err, is_err, sym, refl, ap, ◌∙◌, subst, arith, le-leb}
 use lib.Dec.{leb-zero}
 use Rattle.vocabulary.specs.declared.refusal.Refusal.{Refusal}
 use Rattle.vocabulary.specs.declared.refusal.Refusal.TheVariants.{NoEnd}
-use Rattle.vocabulary.specs.Refusals.{number_of, accepted}
-use Rattle.vocabulary.proofs.RefusalLaws.{none-refused, some-refused}
-use Rattle.sheets.specs.Buffer.{buffer_length, print_answer, print_into, over}
+use Rattle.vocabulary.specs.Refusals.{Ruling, accepted, allowed}
+use Rattle.vocabulary.specs.Stage.{closed_at}
+use Rattle.vocabulary.specs.declared.stage.Stage.{Stage}
+use Rattle.vocabulary.specs.declared.stage.Stage.TheVariants.{Empty, Open, Closed}
+use Rattle.vocabulary.proofs.Answers.{err-refused}
+use Rattle.sheets.specs.Buffer.{Printed, buffer_length, print_answer, print_into, over}
 use Rattle.sheets.specs.Sheet.{quarter_text}
 use Rattle.sheets.proofs.Yielding as yields
-use Rattle.sheets.specs.declared.Printed.{Printed}
 use Rattle.sheets.proofs.Printing.{room-enough}
-use Rattle.sheets.specs.declared.Printed.TheVariants.{Length}
 use Rattle.lines.specs.Turns.{quiet}
 use Rattle.reading.specs.Line.{line_of}
 use Rattle.reading.specs.declared.Line.{Line}
 use Rattle.reading.specs.declared.Line.TheVariants as L
 use Rattle.text.specs.Desk.{Turn, Tells, desk_at, refused_turn, open_turn, answered_turn, sample_turn, end_turn, unless}
-use Rattle.text.specs.Desk.{taken_text, quarter_turn, first_turn, next_turn, turn_at, line_turn, closed_at, finish_at, finish_turn, answer_of}
+use Rattle.text.specs.Desk.{taken_text, quarter_turn, first_turn, next_turn, turn_at, line_turn, finish_at, finish_turn, answer_of}
 use Rattle.text.specs.Serving.{Turned, told_by, early, late, misplaced_at, served_turn, asked_of, followed_turn, placed_turn}
 use Rattle.text.specs.Serving.{told_with, bare_turned, Settles}
 use Rattle.settlement.specs.declared.bare.Bare.{Bare}
@@ -27,8 +28,6 @@ use Rattle.settlement.proofs.BareLaws.{taken-whole}
 use Rattle.settlement.specs.Run.{taken_of}
 use Rattle.settlement.specs.Many.{room_of}
 use Rattle.settlement.proofs.Many.{not_full}
-use Rattle.text.specs.declared.desk.Stage.{Stage}
-use Rattle.text.specs.declared.desk.Stage.TheVariants.{Empty, Open, Closed}
 use Rattle.text.specs.declared.desk.Desk.{Desk}
 use Rattle.text.specs.declared.desk.Told.{Told}
 use Rattle.text.specs.declared.desk.BareTold.{BareTold}
@@ -39,7 +38,7 @@ pub turned : {out out' : List ℕ} {turn : Turn} {p : Printed} {r : Told} → r 
 turned {turn = turn} a e b h = record { told = a ∙ ap (told_by turn.desk) e; bytes = b; room = h }
 
 -- nothing was printed
-pub silent : (out : List ℕ) (after : Desk) → Turned out (quiet after) (told_by after (Length 0)) out
+pub silent : (out : List ℕ) (after : Desk) → Turned out (quiet after) (told_by after (Ok 0)) out
 silent out after = record { told = rw (leb-zero (length out)); bytes = rw (leb-zero (length out)); room = omega arith }
 
 -- the desk that came in was put back where there was no room
@@ -50,7 +49,7 @@ tells {before = before} u a =
 -- nothing has to be put back where the buffer is long enough for every text
 pub long-enough : {out out' : List ℕ} (before : Desk) {turn : Turn} {r : Told} → Turned out turn r out' → buffer_length ≤ length out → Tells out before turn r out'
 long-enough {out} before {turn} u k =
-    let e : print_answer out turn.text ≡ Length (length turn.text) = room-enough out turn.text buffer_length u.room k in
+    let e : print_answer out turn.text ≡ Ok (length turn.text) = room-enough out turn.text buffer_length u.room k in
     record { prints = record { answer = u.told ∙ ap (told_by turn.desk) e ∙ sym (ap (answer_of before turn.desk) e); bytes = u.bytes }; room = u.room }
 
 -- another name of the turn
@@ -61,12 +60,29 @@ pub as-turn : {out out' : List ℕ} {before : Desk} {turn turn' : Turn} {r : Tol
 as-turn {out} {out'} {before} {r = r} e t = subst (λ (x : Turn). Tells out before x r out') e t
 
 -- a call's refusal is the line's, or there is none
-module _ (desk : Desk) (number : ℕ) (turn : Turn) {n : ℕ} {refusal refusal' : Refusal} (e : n ≡ number_of refusal) (same : refusal ≡ refusal') where
-  pub refuses : (n ≡ 0 → ⊥) → refused_turn desk number refusal ≡ unless desk number refusal' turn
-  refuses z = rw (some-refused e same z, same)
+module _ (desk : Desk) (number : ℕ) (turn : Turn) {ruling : Ruling} where
+  pub refuses : (refusal : Refusal) → ruling ≡ Err refusal → refused_turn desk number (Err refusal) ≡ unless desk number ruling turn
+  refuses refusal e = rw (e, err-refused refusal)
 
-  pub goes_on_lem : n ≡ 0 → turn ≡ unless desk number refusal' turn
-  goes_on_lem z = rw (none-refused e same z)
+  pub goes_on_lem : ruling ≡ Ok tt → turn ≡ unless desk number ruling turn
+  goes_on_lem e = rw e
+
+-- a value that is allowed is that of a call that refuses nothing
+pub allowed-value : {A : Type 0} {x y : A} (ruling : Ruling) → allowed ruling x ≡ Ok y → (ruling ≡ Ok tt) × (x ≡ y)
+allowed-value (Ok done) e = (refl, cc)
+allowed-value (Err refusal) e = cc
+
+pub allowed-not : {A : Type 0} (x : A) {refusal : Refusal} (ruling : Ruling) → allowed ruling x ≡ Err refusal → ruling ≡ Err refusal
+allowed-not x (Ok done) e = cc
+allowed-not x (Err other) e = cc
+
+pub refused-err : (ruling : Ruling) → is_err ruling ≡ true → accepted ruling ≡ false
+refused-err (Ok done) e = cc
+refused-err (Err refusal) e = err-refused refusal
+
+pub accepted-ok : (ruling : Ruling) → is_err ruling ≡ false → accepted ruling ≡ true
+accepted-ok (Ok done) e = refl
+accepted-ok (Err refusal) e = cc
 
 -- ---- the turn at the desk's stage
 
@@ -117,12 +133,12 @@ module _ (desk : Desk) (number : ℕ) (line : List ℕ) where
 
 -- and the input's end comes too early
 module _ (desk : Desk) (count : ℕ) where
-  no_end : (stage : Stage) → closed_at stage ≡ false → refused_turn desk ((count + 1) % 2 ^ 64) NoEnd ≡ finish_at stage desk ((count + 1) % 2 ^ 64)
+  no_end : (stage : Stage) → closed_at stage ≡ false → refused_turn desk ((count + 1) % 2 ^ 64) (Err NoEnd) ≡ finish_at stage desk ((count + 1) % 2 ^ 64)
   no_end Empty e = refl
   no_end Open e = refl
   no_end Closed e = absurd (let z : ◌≡◌ {A = ℕ} 0 1 = cc in (omega arith))
 
-  pub finish-open : closed_at desk.stage ≡ false → refused_turn desk ((count + 1) % 2 ^ 64) NoEnd ≡ finish_turn desk count
+  pub finish-open : closed_at desk.stage ≡ false → refused_turn desk ((count + 1) % 2 ^ 64) (Err NoEnd) ≡ finish_turn desk count
   unfolding finish_turn
   finish-open reads = no_end desk.stage reads
 
@@ -150,7 +166,7 @@ module _ (desk : Desk) (shut : closed_at desk.stage ≡ true) where
 pub waits : (run : Run) → 0 < room_of run → quarter_turn run ≡ quiet (desk_at Open run)
 unfolding quarter_turn taken_of
 waits run h =
-    ap (λ (x : Refusal). cond (accepted x) (record { desk = desk_at Open (taken_of run).run; text = taken_text (taken_of run) }) (quiet (desk_at Open run))) (not_full run h)
+    ap (λ (x : Ruling). cond (accepted x) (record { desk = desk_at Open (taken_of run).run; text = taken_text (taken_of run) }) (quiet (desk_at Open run))) (not_full run h)
 
 -- ---- samples of which a reader has the powers
 
@@ -174,7 +190,7 @@ module _ (bare : Bare) (sp ac : List ℤ) where
   pub settles : {r : BareTold} {out out' : List ℕ} → buffer_length ≤ length out → Turned out (quarter_turn run) (told_with r sp ac) out' → Settles out bare sp ac r out'
   settles {r} {out} h u =
       let text = (quarter_turn run).text in
-      let e : print_answer out text ≡ Length (length text) = room-enough out text buffer_length u.room h in
+      let e : print_answer out text ≡ Ok (length text) = room-enough out text buffer_length u.room h in
       let room : length text ≤ length out = omega (arith, u.room, h) in
       yields.long-enough _ buffer_length out _ (bare_turned (quarter_turn run)) text h
       (ap (λ (x : Told). record { bare = bare_of x.desk.run; printed = x.printed }) u.told

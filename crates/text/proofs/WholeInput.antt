@@ -12,8 +12,8 @@ use Rattle.reading.specs.Line.{line_of}
 use Rattle.reading.specs.declared.Line.TheVariants.{Malformed}
 use Rattle.text.specs.Desk.{Turn, empty_desk, turn_at, next_turn, line_turn}
 use Rattle.text.specs.Settle.{and_then, with_line, with_end, after_lines, settle}
-use Rattle.text.specs.declared.desk.Stage.{Stage}
-use Rattle.text.specs.declared.desk.Stage.TheVariants.{Empty, Open, Closed}
+use Rattle.vocabulary.specs.declared.stage.Stage.{Stage}
+use Rattle.vocabulary.specs.declared.stage.Stage.TheVariants.{Empty, Open, Closed}
 use Rattle.text.specs.declared.desk.Desk.{Desk}
 
 -- a line of more than 80 bytes is malformed, whatever its bytes

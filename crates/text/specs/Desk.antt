@@ -1,10 +1,10 @@
 -- What each line makes of the desk, and what is printed for it (docs/RULES.md, 'Text', 'The sheet').
-use Rattle.std.specs.Prelude.{◌≡◌, ℕ, ◌+◌, ◌%◌, ◌^◌, ◌≤◌, Bool, true, false, cond, List, length, pos}
-use Rattle.vocabulary.specs.declared.refusal.Refusal.{Refusal}
+use Rattle.std.specs.Prelude.{◌≡◌, ℕ, ◌+◌, ◌%◌, ◌^◌, ◌≤◌, cond, List, length, Ok, Err}
 use Rattle.vocabulary.specs.declared.refusal.Refusal.TheVariants.{WrongMoment, BadLine, NoEnd}
-use Rattle.vocabulary.specs.Refusals.{accepted}
+use Rattle.vocabulary.specs.Refusals.{Ruling, accepted}
+use Rattle.vocabulary.specs.declared.stage.Stage.{Stage}
+use Rattle.vocabulary.specs.declared.stage.Stage.TheVariants.{Empty, Open, Closed}
 use Rattle.vocabulary.specs.declared.header.Header.{Header}
-use Rattle.vocabulary.specs.declared.header.Lot.TheVariants.{Kw}
 use Rattle.vocabulary.specs.declared.sample.Sample.{Sample}
 use Rattle.channel.specs.State.{handed_on}
 use Rattle.settlement.specs.declared.run.Run.{Run}
@@ -12,19 +12,15 @@ use Rattle.settlement.specs.declared.run.Answer.{Answer}
 use Rattle.settlement.specs.declared.run.Taken.{Taken}
 use Rattle.settlement.specs.declared.run.Heading.{Heading}
 use Rattle.settlement.specs.declared.run.Ended.{Ended}
-use Rattle.settlement.specs.Run.{opened_of, with_bounds_of, with_setpoint_of, contracted_of, sampled_of, taken_of, ended_of, heading_of}
+use Rattle.settlement.specs.Run.{no_run, opened_of, with_bounds_of, with_setpoint_of, contracted_of, sampled_of, taken_of, ended_of, heading_of}
 use Rattle.sheets.specs.Sheet.{head_text, quarter_text, closing_text, refusal_text}
-use Rattle.sheets.specs.Buffer.{buffer_length, print_answer, print_into}
-use Rattle.sheets.specs.declared.Printed.{Printed}
-use Rattle.sheets.specs.declared.Printed.TheVariants.{Length, TooShort}
+use Rattle.sheets.specs.Buffer.{Printed, buffer_length, print_answer, print_into}
 use Rattle.reading.specs.Line.{line_of, identifier_of}
 use Rattle.reading.specs.declared.Line.{Line}
 use Rattle.reading.specs.declared.Line.TheVariants as L
 use Rattle.lines.specs.Turns as turns
 use Rattle.lines.specs.Turns.{quiet}
 use Rattle.settlement.specs.Many.{room_of, many_of}
-use Rattle.text.specs.declared.desk.Stage.{Stage}
-use Rattle.text.specs.declared.desk.Stage.TheVariants.{Empty, Open, Closed}
 use Rattle.text.specs.declared.desk.Desk.{Desk}
 use Rattle.text.specs.declared.desk.Told.{Told}
 
@@ -36,18 +32,15 @@ abbrev pub desk_at : Stage → Run → Desk
 desk_at stage run = record { run = run; stage = stage }
 
 -- before the first line: what stands where an opening was refused
-abbrev pub no_header : Header
-no_header = record { date = record { year = 0; month = 0; day = 0 }; interval = pos 0; lot = Kw (pos 0); quarters = pos 0 }
-
 unfoldable pub empty_desk : Desk
-empty_desk = desk_at Empty (opened_of no_header).run
+empty_desk = desk_at Empty no_run
 
 -- "on the first refusal the program prints R|line number|refusal and stops"
-unfoldable pub refused_turn : Desk → ℕ → Refusal → Turn
+unfoldable pub refused_turn : Desk → ℕ → Ruling → Turn
 refused_turn desk number refusal = record { desk = desk_at Closed desk.run; text = refusal_text number refusal }
 
 -- what a call makes of a line: its refusal, or what follows
-abbrev pub unless : Desk → ℕ → Refusal → Turn → Turn
+abbrev pub unless : Desk → ℕ → Ruling → Turn → Turn
 unless desk number refusal turn = cond (accepted refusal) turn (refused_turn desk number refusal)
 
 -- V, "printed once D is accepted"
@@ -100,22 +93,22 @@ end_turn desk number =
 -- "a malformed line is 14 and nothing further is looked at"; before the header, anything else is 1
 unfoldable pub first_turn : Desk → ℕ → Line → Turn
 first_turn desk number (L.Header header) = open_turn desk number header
-first_turn desk number (L.Bounds bounds) = refused_turn desk number WrongMoment
-first_turn desk number (L.Setpoint setpoint) = refused_turn desk number WrongMoment
-first_turn desk number (L.Contract contract) = refused_turn desk number WrongMoment
-first_turn desk number (L.Sample sample) = refused_turn desk number WrongMoment
-first_turn desk number L.End = refused_turn desk number WrongMoment
-first_turn desk number L.Malformed = refused_turn desk number BadLine
+first_turn desk number (L.Bounds bounds) = refused_turn desk number (Err WrongMoment)
+first_turn desk number (L.Setpoint setpoint) = refused_turn desk number (Err WrongMoment)
+first_turn desk number (L.Contract contract) = refused_turn desk number (Err WrongMoment)
+first_turn desk number (L.Sample sample) = refused_turn desk number (Err WrongMoment)
+first_turn desk number L.End = refused_turn desk number (Err WrongMoment)
+first_turn desk number L.Malformed = refused_turn desk number (Err BadLine)
 
 -- after it, a header is 1
 unfoldable pub next_turn : Desk → ℕ → List ℕ → Line → Turn
-next_turn desk number line (L.Header header) = refused_turn desk number WrongMoment
+next_turn desk number line (L.Header header) = refused_turn desk number (Err WrongMoment)
 next_turn desk number line (L.Bounds bounds) = answered_turn desk number (with_bounds_of desk.run bounds)
 next_turn desk number line (L.Setpoint setpoint) = answered_turn desk number (with_setpoint_of desk.run setpoint)
 next_turn desk number line (L.Contract contract) = answered_turn desk number (contracted_of desk.run contract (identifier_of line))
 next_turn desk number line (L.Sample sample) = sample_turn desk number sample
 next_turn desk number line L.End = end_turn desk number
-next_turn desk number line L.Malformed = refused_turn desk number BadLine
+next_turn desk number line L.Malformed = refused_turn desk number (Err BadLine)
 
 -- "after E nothing is read", and after a refusal
 abbrev pub turn_at : Stage → Desk → ℕ → List ℕ → Turn
@@ -127,16 +120,10 @@ turn_at Closed desk number line = quiet desk
 unfoldable pub line_turn : Desk → ℕ → List ℕ → Turn
 line_turn desk number line = turn_at desk.stage desk number line
 
--- whether the end or a refusal was printed
-abbrev pub closed_at : Stage → Bool
-closed_at Empty = false
-closed_at Open = false
-closed_at Closed = true
-
 -- the input ended after so many complete lines: 15 "is the number of complete lines plus 1"
 abbrev pub finish_at : Stage → Desk → ℕ → Turn
-finish_at Empty desk number = refused_turn desk number NoEnd
-finish_at Open desk number = refused_turn desk number NoEnd
+finish_at Empty desk number = refused_turn desk number (Err NoEnd)
+finish_at Open desk number = refused_turn desk number (Err NoEnd)
 finish_at Closed desk number = quiet desk
 
 unfoldable pub finish_turn : Desk → ℕ → Turn
@@ -144,8 +131,8 @@ finish_turn desk count = finish_at desk.stage desk ((count + 1) % 2 ^ 64)
 
 -- what is handed back: where the buffer is too short for the text, the desk that came in
 abbrev pub answer_of : Desk → Desk → Printed → Told
-answer_of before after (Length n) = record { desk = after; printed = Length n }
-answer_of before after TooShort = record { desk = before; printed = TooShort }
+answer_of before after (Ok n) = record { desk = after; printed = Ok n }
+answer_of before after (Err refusal) = record { desk = before; printed = Err refusal }
 
 -- a call prints a turn: its answer, and the bytes of the buffer
 pub record Prints (out : List ℕ) (before : Desk) (turn : Turn) (r : Told) (out' : List ℕ) : Type 0 where

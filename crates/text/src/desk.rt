@@ -1,28 +1,21 @@
 // The desk takes the lines of an input one after the other, hands what they say to the run, and prints what there is to say.
 ghost use Rattle.std.specs.Prelude.{◌≡◌};
-ghost use Rattle.sheets.specs.declared.Printed.TheVariants.{Length};
 ghost use Rattle.settlement.specs.Bare.{whole_of};
 ghost use Rattle.reading.specs.Line.{line_of};
 ghost use Rattle.text.specs.Desk.{Tells, desk_at, empty_desk, answer_of, refused_turn, open_turn, quarter_turn};
-ghost use Rattle.text.specs.Desk.{end_turn, line_turn, finish_turn, closed_at};
-ghost use Rattle.text.specs.Serving.{Turned, told_by, early, late, misplaced_at, begun_turn, unasked_of, asked_of, followed_turn, served_turn, placed_turn, told_with, Settles};
+ghost use Rattle.text.specs.Desk.{end_turn, line_turn, finish_turn};
+ghost use Rattle.text.specs.Serving.{Turned, told_by, early, late, misplaced_at, begun_turn, asked_of, followed_turn, served_turn, placed_turn, told_with, Settles};
+ghost use Rattle.vocabulary.specs.Stage.{closed_at};
 
-use arithmetic::date::Date;
 use reading::{Line, identifier, read};
 use settlement::bare::Bare;
 use settlement::run::{Answer, Run};
-use sheets::{BUFFER, Printed, print_closing, print_head, print_quarter, print_refusal};
-use vocabulary::header::{Header, Lot};
+use sheets::{BUFFER, print_closing, print_head, print_quarter, print_refusal};
+use vocabulary::header::Header;
 use vocabulary::refusal::Refusal;
+use vocabulary::stage::Stage;
 
-// Before the header; while the run is open; after the end or a refusal, when nothing is read any more.
-#[derive(Clone, Copy)]
-pub enum Stage {
-    Empty,
-    Open,
-    Closed,
-}
-
+// Empty before the header; open while the run is; closed after the end or a refusal, when nothing is read any more.
 #[derive(Clone, Copy)]
 pub struct Desk {
     pub run: Run,
@@ -33,26 +26,25 @@ pub struct Desk {
 #[derive(Clone, Copy)]
 pub struct Told {
     pub desk: Desk,
-    pub printed: Printed,
+    pub printed: Result<usize, Refusal>,
 }
 
 // What it answers to samples, of which a reader has the powers.
 #[derive(Clone, Copy)]
 pub struct BareTold {
     pub bare: Bare,
-    pub printed: Printed,
+    pub printed: Result<usize, Refusal>,
 }
 
 // The turns below answer the desk after printing; where the buffer was too short, the one that came in is put back here.
 fn kept(before: Desk, told: Told) -> Told
     ensures { result ≡ answer_of before told.desk told.printed }
 {
-    let printed = told.printed;
-    match printed {
-        Printed::Length(_) => told,
-        Printed::TooShort => Told {
+    match told.printed {
+        Ok(_) => told,
+        Err(_) => Told {
             desk: before,
-            printed: printed,
+            ..told
         },
     }
 }
@@ -64,23 +56,20 @@ fn take_full(bare: Bare, setpoints: &[i32; 900], actuals: &[i32; 900], out: &mut
 {
     if bare.room() != 0 {
         return BareTold {
-            bare: bare,
-            printed: Printed::Length(0),
+            bare,
+            printed: Ok(0),
         };
     }
     let taken = bare.take(setpoints, actuals);
-    let refusal = taken.refusal;
-    if refusal.number() != 0 {
+    if taken.refusal.is_err() {
         return BareTold {
-            bare: bare,
-            printed: Printed::Length(0),
+            bare,
+            printed: Ok(0),
         };
     }
-    let printed = print_quarter(out, taken.quarter, taken.sheets);
-    let after = taken.bare;
     BareTold {
-        bare: after,
-        printed: printed,
+        bare: taken.bare,
+        printed: print_quarter(out, taken.quarter, taken.sheets),
     }
 }
 
@@ -91,49 +80,32 @@ pub fn samples(bare: Bare, setpoints: &[i32; 900], actuals: &[i32; 900], out: &m
 {
     if out.len() < BUFFER {
         return BareTold {
-            bare: bare,
-            printed: Printed::TooShort,
+            bare,
+            printed: Err(Refusal::BufferTooShort),
         };
     }
     take_full(bare, setpoints, actuals, out)
 }
 
 // Before the header any other line comes too early.
-fn too_early(said: Line) -> Refusal
+fn too_early(said: Line) -> Result<(), Refusal>
     ensures { result ≡ early said }
 {
     match said {
-        Line::Header(_) => Refusal::None,
-        Line::Bounds(_) => Refusal::WrongMoment,
-        Line::Setpoint(_) => Refusal::WrongMoment,
-        Line::Contract(_) => Refusal::WrongMoment,
-        Line::Sample(_) => Refusal::WrongMoment,
-        Line::End => Refusal::WrongMoment,
-        Line::Malformed => Refusal::BadLine,
+        Line::Header(_) => Ok(()),
+        Line::Malformed => Err(Refusal::BadLine),
+        _ => Err(Refusal::WrongMoment),
     }
 }
 
 // After it a second one comes too late.
-fn too_late(said: Line) -> Refusal
+fn too_late(said: Line) -> Result<(), Refusal>
     ensures { result ≡ late said }
 {
     match said {
-        Line::Header(_) => Refusal::WrongMoment,
-        Line::Bounds(_) => Refusal::None,
-        Line::Setpoint(_) => Refusal::None,
-        Line::Contract(_) => Refusal::None,
-        Line::Sample(_) => Refusal::None,
-        Line::End => Refusal::None,
-        Line::Malformed => Refusal::BadLine,
-    }
-}
-
-fn unasked(run: Run, refusal: Refusal) -> Answer
-    ensures { result ≡ unasked_of run refusal }
-{
-    Answer {
-        run: run,
-        refusal: refusal,
+        Line::Header(_) => Err(Refusal::WrongMoment),
+        Line::Malformed => Err(Refusal::BadLine),
+        _ => Ok(()),
     }
 }
 
@@ -142,78 +114,65 @@ fn asked(run: Run, said: Line, line: &[u8]) -> Answer
     ensures { result ≡ asked_of run line.now said }
 {
     match said {
-        Line::Header(_) => unasked(run, Refusal::None),
+        Line::Header(_) | Line::End => Answer {
+            run,
+            refusal: Ok(()),
+        },
         Line::Bounds(bounds) => run.bounds(bounds),
         Line::Setpoint(setpoint) => run.setpoint(setpoint),
         Line::Contract(contract) => run.contract(contract, identifier(line)),
         Line::Sample(sample) => run.sample(sample),
-        Line::End => unasked(run, Refusal::None),
-        Line::Malformed => unasked(run, Refusal::BadLine),
+        Line::Malformed => Answer {
+            run,
+            refusal: Err(Refusal::BadLine),
+        },
     }
 }
 
 // What is wrong with a line before the run is asked.
-fn misplaced(stage: Stage, said: Line) -> Refusal
+fn misplaced(stage: Stage, said: Line) -> Result<(), Refusal>
     ensures { result ≡ misplaced_at stage said }
 {
     match stage {
         Stage::Empty => too_early(said),
         Stage::Open => too_late(said),
-        Stage::Closed => Refusal::None,
+        Stage::Closed => Ok(()),
     }
 }
 
 impl Desk {
-    // Nothing was read yet: the run is what a refused opening gives.
+    // Nothing was read yet.
     pub fn new() -> Desk
         ensures { result ≡ empty_desk }
     {
-        let none = Header {
-            date: Date {
-                year: 0,
-                month: 0,
-                day: 0,
-            },
-            interval: 0,
-            lot: Lot::Kw(0),
-            quarters: 0,
-        };
-        let opened = Run::open(none);
-        let run = opened.run;
         Desk {
-            run: run,
+            run: Run::unopened(),
             stage: Stage::Empty,
-        }
-    }
-
-    fn told(run: Run, stage: Stage, printed: Printed) -> Told
-        ensures { result ≡ told_by (desk_at stage run) printed }
-    {
-        Told {
-            desk: Desk {
-                run: run,
-                stage: stage,
-            },
-            printed: printed,
         }
     }
 
     // Nothing is printed.
     fn silent(self) -> Told
-        ensures { result ≡ told_by self (Length 0) }
+        ensures { result ≡ told_by self (Ok 0) }
     {
         Told {
             desk: self,
-            printed: Printed::Length(0),
+            printed: Ok(0),
         }
     }
 
     // A refusal: its line is printed, and the desk is closed.
     fn refused(self, number: u64, refusal: Refusal, out: &mut [u8]) -> Told
-        ensures { Turned out.old (refused_turn self number refusal) result out.new }
+        ensures { Turned out.old (refused_turn self number (Err refusal)) result out.new }
     {
-        let printed = print_refusal(out, number, refusal);
-        Desk::told(self.run, Stage::Closed, printed)
+        let printed = print_refusal(out, number, Err(refusal));
+        Told {
+            desk: Desk {
+                stage: Stage::Closed,
+                ..self
+            },
+            printed,
+        }
     }
 
     // The run is open, and the sheet's head is printed.
@@ -221,20 +180,23 @@ impl Desk {
         ensures { Turned out.old (begun_turn run) result out.new }
     {
         let heading = run.heading();
-        let interval = heading.interval;
-        let printed = print_head(out, heading.date, interval, heading.lot);
-        Desk::told(run, Stage::Open, printed)
+        let printed = print_head(out, heading.date, heading.interval, heading.lot);
+        Told {
+            desk: Desk {
+                run,
+                stage: Stage::Open,
+            },
+            printed,
+        }
     }
 
     fn open(self, number: u64, header: Header, out: &mut [u8]) -> Told
         ensures { Turned out.old (open_turn self number header) result out.new }
     {
-        let opened = Run::open(header);
-        let refusal = opened.refusal;
-        if refusal.number() != 0 {
-            return self.refused(number, refusal, out);
+        match Run::open(header) {
+            Ok(run) => Desk::begun(run, out),
+            Err(refusal) => self.refused(number, refusal, out),
         }
-        Desk::begun(opened.run, out)
     }
 
     // After a sample.
@@ -245,22 +207,30 @@ impl Desk {
         let mut actuals = [0i32; 900];
         let bare = run.apart(&mut setpoints, &mut actuals);
         let told = take_full(bare, &setpoints, &actuals, out);
-        let after = told.bare;
-        let printed = told.printed;
-        Desk::told(after.whole(&setpoints, &actuals), Stage::Open, printed)
+        Told {
+            desk: Desk {
+                run: told.bare.whole(&setpoints, &actuals),
+                stage: Stage::Open,
+            },
+            printed: told.printed,
+        }
     }
 
     fn end(self, number: u64, out: &mut [u8]) -> Told
         ensures { Turned out.old (end_turn self number) result out.new }
     {
         let ended = self.run.end();
-        let refusal = ended.refusal;
-        if refusal.number() != 0 {
+        if let Err(refusal) = ended.refusal {
             return self.refused(number, refusal, out);
         }
-        let past = ended.past;
-        let printed = print_closing(out, ended.quarters, ended.fees, ended.penalties, past);
-        Desk::told(ended.run, Stage::Closed, printed)
+        let printed = print_closing(out, ended.quarters, ended.fees, ended.penalties, ended.past);
+        Told {
+            desk: Desk {
+                run: ended.run,
+                stage: Stage::Closed,
+            },
+            printed,
+        }
     }
 
     // What there is to do and to print once the run has accepted a line.
@@ -269,12 +239,10 @@ impl Desk {
     {
         match said {
             Line::Header(header) => self.open(number, header, out),
-            Line::Bounds(_) => self.silent(),
-            Line::Setpoint(_) => self.silent(),
-            Line::Contract(_) => self.silent(),
             Line::Sample(_) => Desk::quarter(self.run, out),
             Line::End => self.end(number, out),
-            Line::Malformed => self.silent(),
+            Line::Bounds(_) | Line::Setpoint(_) | Line::Contract(_) | Line::Malformed =>
+                self.silent(),
         }
     }
 
@@ -283,13 +251,11 @@ impl Desk {
         ensures { Turned out.old (served_turn self number line.now said) result out.new }
     {
         let answer = asked(self.run, said, line);
-        let refusal = answer.refusal;
-        if refusal.number() != 0 {
+        if let Err(refusal) = answer.refusal {
             return self.refused(number, refusal, out);
         }
-        let run = answer.run;
         let desk = Desk {
-            run: run,
+            run: answer.run,
             stage: Stage::Open,
         };
         desk.followed(number, said, out)
@@ -299,10 +265,8 @@ impl Desk {
     fn turn(self, number: u64, line: &[u8], out: &mut [u8]) -> Told
         ensures { Turned out.old (placed_turn self number line.now (line_of line.now)) result out.new }
     {
-        let stage = self.stage;
         let said = read(line);
-        let refusal = misplaced(stage, said);
-        if refusal.number() != 0 {
+        if let Err(refusal) = misplaced(self.stage, said) {
             return self.refused(number, refusal, out);
         }
         self.served(number, said, line, out)
@@ -312,12 +276,7 @@ impl Desk {
     pub fn is_closed(self) -> bool
         ensures { result ≡ closed_at self.stage }
     {
-        let stage = self.stage;
-        match stage {
-            Stage::Empty => false,
-            Stage::Open => false,
-            Stage::Closed => true,
-        }
+        self.stage.is_closed()
     }
 
     // One complete line of the input, without its LF; lines count from 1. A long buffer is never too short, so that no desk is kept beside it to be put back.
@@ -340,7 +299,7 @@ impl Desk {
         if self.is_closed() {
             return self.silent();
         }
-        let number = std::num::wrapping_add_u64(count, 1);
+        let number = count.wrapping_add(1);
         kept(self, self.refused(number, Refusal::NoEnd, out))
     }
 }

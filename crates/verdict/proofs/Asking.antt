@@ -4,19 +4,17 @@ use Prim.Native.Nat.{ℕ}
 use mathlib.Core.Path.{◌≡◌, refl}
 use mathlib.Core.Bool.{Bool, true, false, cond, ◌&&◌}
 use mathlib.Core.List.{List}
-use native.Mathlib.Omega.{arith}
 use lib.Dec.{eqb, ltb}
+use lib.IntN.{ℤ}
 use lib.ListN.{length, get_or}
 use borrow.Author.Tests.{eqb-true}
+use Rattle.std.specs.Prelude.{Option, Some, None}
+use Rattle.vocabulary.specs.declared.direction.Direction.{Direction}
 use Rattle.fields.specs.Fields.{fields, field_at}
 use Rattle.fields.specs.Numbers.{number_of}
-use Rattle.fields.specs.declared.number.Number.{Number}
 use Rattle.reading.specs.Line.{is_letter, kind_of, by_kind, direction_of, line_of}
-use Rattle.reading.specs.declared.DirectionField.{DirectionField}
 use Rattle.reading.specs.declared.Line.{Line}
 use Rattle.reading.specs.Share.{share_fields, share_of, asked_of}
-use Rattle.fields.specs.declared.number.Number.TheVariants as N
-use Rattle.reading.specs.declared.DirectionField.TheVariants as DF
 use Rattle.reading.specs.declared.Kind.TheVariants as K
 use Rattle.reading.specs.declared.Line.TheVariants as L
 use Rattle.reading.specs.declared.share.Asked.TheVariants as A
@@ -30,7 +28,7 @@ other-letter a b field e n = go (eqb (length field) 1) (eqb (get_or field 0 0) a
     go : (s t : Bool) → eqb (get_or field 0 0) a ≡ t → (s && t) ≡ true → (s && eqb (get_or field 0 0) b) ≡ false
     go false t p e = refl
     go true true p e = rw (eqb-true (get_or field 0 0) a p) n
-    go true false p e = let z : ◌≡◌ {A = ℕ} 0 1 = cc in absurd (omega arith)
+    go true false p e = cc
 
 -- U is no letter of a line that is settled
 u-unknown : (field : List ℕ) → is_letter 85 field ≡ true → kind_of field ≡ K.Unknown
@@ -51,12 +49,12 @@ share-settles : (fs : List (List ℕ)) (said : Line) → share_of fs ≡ A.Settl
 unfolding share_of
 share-settles fs said = go (eqb (length fs) 5) (number_of (field_at 1 fs)) (direction_of (field_at 2 fs)) (number_of (field_at 4 fs))
   where
-    go : (t : Bool) (q : Number) (d : DirectionField) (k : Number) → cond t (share_fields q d k) (A.Settling L.Malformed) ≡ A.Settling said → L.Malformed ≡ said
+    go : (t : Bool) (q : Option ℤ) (d : Option Direction) (k : Option ℤ) → cond t (share_fields q d k) (A.Settling L.Malformed) ≡ A.Settling said → L.Malformed ≡ said
     go false q d k e = cc
-    go true (N.Value q) (DF.Of d) (N.Value k) e = let z : ◌≡◌ {A = ℕ} 0 1 = cc in absurd (omega arith)
-    go true (N.Value q) (DF.Of d) N.Malformed e = cc
-    go true (N.Value q) DF.Malformed k e = cc
-    go true N.Malformed d k e = cc
+    go true (Some q) (Some d) (Some k) e = cc
+    go true (Some q) (Some d) None e = cc
+    go true (Some q) None k e = cc
+    go true None d k e = cc
 
 -- ---- so
 

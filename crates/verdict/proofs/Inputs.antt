@@ -2,7 +2,7 @@
 -- Assumes nothing.
 use Prim.Native.Nat.{ℕ, zero, suc, ◌+◌, ◌<◌}
 use mathlib.Core.Path.{◌≡◌, refl, sym, ap, ◌∙◌}
-use mathlib.Core.List.{List, [], ◌++◌}
+use mathlib.Core.List.{List, []}
 use native.Mathlib.Omega.{arith}
 use native.Mathlib.Decide.{dec_lt}
 use lib.IntN.{ℤ}
@@ -19,6 +19,7 @@ use Rattle.meaning.specs.Given.{Deal, Given, quarters_in}
 use Rattle.meaning.specs.Meaning.{nothing, these}
 use Rattle.meaning.specs.Endings.{Accepts, Each, of_none, of_more, FairDeal, Proper, ProperSo, not_yet, so_far}
 use Rattle.meaning.proofs.Proper.{proper-lines}
+use Rattle.join.proofs.NumberBack.{each_both}
 use Rattle.verdict.specs.Wanted.{wanted_of, wanted_up_to, verdict_of}
 use Rattle.verdict.specs.Checked.{Outcome, refused, judged, outcome, outcome_of, told, checked}
 use Rattle.verdict.specs.Promises.{SharesSaid, AllAcceptable, earlier, first, FirstFailing, IsAccepted, Judges, accepts, names}
@@ -26,10 +27,6 @@ use Rattle.verdict.proofs.Verdicts.{verdict-accepts, accepted-holds, failing-fir
 use Rattle.verdict.proofs.Outcomes.{Named, lines-judged, ends-shares, judged-ends}
 
 -- ---- the identifiers that are wanted are well-formed
-
-pub each_both : {X : Type 0} {P : X → Type 0} {xs ys : List X} → Each P xs → Each P ys → Each P (xs ++ ys)
-each_both of_none r = r
-each_both (of_more p ps) r = of_more p (each_both ps r)
 
 named-deals : (q : ℕ) (d : Direction) {xs : List Deal} → Each FairDeal xs → Each Named (each (wanted_of q d) xs)
 unfolding each

@@ -12,11 +12,11 @@ use lib.Signed.{lt_z}
 use borrow.Author.Tests.{eqb-true, eq-eqb, le-ltb, not-true}
 use Rattle.arithmetic.specs.Whole.{up}
 use Rattle.arithmetic.proofs.Signed.{up_pos}
+use Rattle.arithmetic.proofs.Booleans.{true-false, both}
 use Rattle.vocabulary.specs.declared.direction.Direction.{Direction}
 use Rattle.vocabulary.specs.declared.direction.Direction.TheVariants.{Positive, Negative}
-use Rattle.vocabulary.specs.declared.refusal.Refusal.{Refusal}
 use Rattle.vocabulary.specs.declared.refusal.Refusal.TheVariants.{BadIdentifier, BadBlockLength, MisplacedShare}
-use Rattle.vocabulary.specs.Refusals.{accepted}
+use Rattle.vocabulary.specs.Refusals.{Ruling, accepted}
 use Rattle.vocabulary.specs.Grounds.{on, first}
 use Rattle.contracts.specs.Identifier.{well_formed, same_bytes}
 use Rattle.sheets.specs.Sheet.{letter_of}
@@ -38,20 +38,13 @@ use Rattle.reading.specs.declared.Line.TheVariants as L
 use Rattle.reading.specs.declared.share.Asked.TheVariants as A
 use Rattle.verdict.specs.Promises as P
 
-pub never : {X : Type 0} → ◌≡◌ {A = Bool} false true → X
-never e = let z : ◌≡◌ {A = ℕ} 0 1 = cc in absurd (omega arith)
-
-both : (s t : Bool) → (s && t) ≡ true → (s ≡ true) × (t ≡ true)
-both true t e = (refl, e)
-both false t e = never e
-
 -- ---- the share that is wanted
 
 same-is : (a b : List ℕ) → same_bytes a b ≡ true → a ≡ b
 unfolding same_bytes
 same-is [] [] e = refl
-same-is [] (y ∷ ys) e = never e
-same-is (x ∷ xs) [] e = never e
+same-is [] (y ∷ ys) e = cc
+same-is (x ∷ xs) [] e = cc
 same-is (x ∷ xs) (y ∷ ys) e =
     let p = both (eqb x y) (same_bytes xs ys) e in
     rw (eqb-true x y p.0, same-is xs ys p.1)
@@ -63,8 +56,8 @@ same_self (x ∷ xs) = rw (eq-eqb x x refl) (same_self xs)
 
 letter-is : (c d : Direction) → eqb (letter_of c) (letter_of d) ≡ true → c ≡ d
 letter-is Positive Positive e = refl
-letter-is Positive Negative e = never e
-letter-is Negative Positive e = never e
+letter-is Positive Negative e = cc
+letter-is Negative Positive e = cc
 letter-is Negative Negative e = refl
 
 letter-self : (d : Direction) → eqb (letter_of d) (letter_of d) ≡ true
@@ -74,7 +67,7 @@ letter-self Negative = refl
 not_below : (z : ℤ) → lt_z z (pos 0) ≡ false → z ≡ pos (up z)
 unfolding up
 not_below (pos n) e = refl
-not_below (negsuc n) e = never (sym e)
+not_below (negsuc n) e = cc
 
 record For (w : Wanted) (s : Share) (identifier : List ℕ) : Type 0 where
   quarter : s.quarter ≡ pos w.quarter
@@ -125,8 +118,8 @@ record Judged (g : Given) (us : List (List ℕ)) (ws : List Wanted) (before : Li
   whole : all ≡ before ++ shares
   says : SaysShares us ws shares
 
-apart : {X : Type 0} {n : ℕ} {refusal : Refusal} {g : Given} {shares : List ℤ} → refused n refusal ≡ judged g shares → X
-apart e = let z : ◌≡◌ {A = ℕ} 0 1 = cc in absurd (omega arith)
+apart : {X : Type 0} {n : ℕ} {refusal : Ruling} {g : Given} {shares : List ℤ} → refused n refusal ≡ judged g shares → X
+apart e = cc
 
 pub late-refused : (ws : List Wanted) (line : List ℕ) (said : Line) → accepted (share_ground ws line (A.Settling said)) ≡ false
 unfolding share_grounds
@@ -139,13 +132,13 @@ late-refused ws line L.End = refl
 late-refused ws line L.Malformed = refl
 
 -- a share passes where its identifier is well-formed and it is the one that is wanted
-abbrev passing : Bool → Bool → Refusal
+abbrev passing : Bool → Bool → Ruling
 passing named wanted = first (on BadIdentifier (not named) ∷ on MisplacedShare (not wanted) ∷ [])
 
 passed-both : (a b : Bool) → accepted (passing a b) ≡ true → b ≡ true
 passed-both true true e = refl
-passed-both true false e = never e
-passed-both false b e = never e
+passed-both true false e = cc
+passed-both false b e = cc
 
 pub surplus-refused : (line : List ℕ) (s : Share) → accepted (share_ground [] line (A.Share s)) ≡ false
 unfolding share_grounds
@@ -166,7 +159,7 @@ settled-ground so line said = refl
 judged-lines : (g : Given) (us : List (List ℕ)) (ws : List Wanted) (before : List ℤ) (n : ℕ) (h : Given) (all : List ℤ) → share_lines g ws before n us ≡ judged h all → Judged g us ws before h all
 unfolding share_lines
 judged-lines g [] [] before n h all e = record { same = cc; shares = []; whole = cc (append-nil before); says = P.none }
-judged-lines g [] (w ∷ ws) before n h all e = let z : ◌≡◌ {A = ℕ} 0 1 = cc in absurd (omega arith)
+judged-lines g [] (w ∷ ws) before n h all e = cc
 judged-lines g (line ∷ us) ws before n h all e = go ws (accepted (share_ground ws line (asked_of line))) refl (asked_of line) refl e (judged-lines g us)
   where
     go : (ws : List Wanted) (t : Bool) → accepted (share_ground ws line (asked_of line)) ≡ t → (a : Asked) → asked_of line ≡ a
@@ -174,8 +167,8 @@ judged-lines g (line ∷ us) ws before n h all e = go ws (accepted (share_ground
         → ((ws : List Wanted) (before : List ℤ) (n : ℕ) (h : Given) (all : List ℤ) → share_lines g ws before n us ≡ judged h all → Judged g us ws before h all)
         → Judged g (line ∷ us) ws before h all
     go ws false p a q e rest = apart e
-    go ws true p (A.Settling said) q e rest = never (sym (late-refused ws line said) ∙ rw q at p)
-    go [] true p (A.Share s) q e rest = never (sym (surplus-refused line s) ∙ rw q at p)
+    go ws true p (A.Settling said) q e rest = true-false (rw q at p) (late-refused ws line said)
+    go [] true p (A.Share s) q e rest = true-false (rw q at p) (surplus-refused line s)
     go (w ∷ ws) true p (A.Share s) q e rest =
         let f = says-for w s (whose_of line) (passed w ws line s (rw q at p)) in
         let r = rest ws (before ++ (s.kwh ∷ [])) (n + 1) h all e in
@@ -206,12 +199,12 @@ pub ends-shares : {so last : SoFar} {before : List (List ℕ)} → Accepts so be
     → accepted (ground last (identifier_of end) L.End) ≡ true → outcome so n (before ++ (end ∷ us)) ≡ after_end last (n + length before + 1) us
 unfolding outcome asked_grounds
 ends-shares {so} none end us n ends complete =
-    let known : line_of end ≡ L.Malformed → ⊥ = λ m. let z : ◌≡◌ {A = ℕ} 0 1 = cc in omega arith in
+    let known : line_of end ≡ L.Malformed → ⊥ = λ m. cc in
     let asked : asked_of end ≡ A.Settling L.End = line-settling end known ∙ ap A.Settling ends in
     let m : n + 0 + 1 ≡ n + 1 = omega arith in
     rw (asked, complete, m)
 ends-shares {so} (more {line} {lines} ok not_end rest) end us n ends complete =
-    let known : line_of line ≡ L.Malformed → ⊥ = λ m. never (sym (malformed-refused so (identifier_of line)) ∙ rw m at ok) in
+    let known : line_of line ≡ L.Malformed → ⊥ = λ m. true-false (rw m at ok) (malformed-refused so (identifier_of line)) in
     let asked : asked_of line ≡ A.Settling (line_of line) = line-settling line known in
     let m : n + suc (length lines) + 1 ≡ n + 1 + length lines + 1 = omega arith in
     rw (asked, ok, m) (unless_not (line_of line) (after_end so (n + 1) (lines ++ (end ∷ us))) (outcome (after so (identifier_of line) (line_of line)) (n + 1) (lines ++ (end ∷ us))) not_end
@@ -253,13 +246,13 @@ one-before so line lines g shares said n e a r =
     }
 
 not_end : (said : Line) → Dec (said ≡ L.End)
-not_end (L.Header h) = no (λ e. let z : ◌≡◌ {A = ℕ} 0 1 = cc in omega arith)
-not_end (L.Bounds bounds) = no (λ e. let z : ◌≡◌ {A = ℕ} 0 1 = cc in omega arith)
-not_end (L.Setpoint s) = no (λ e. let z : ◌≡◌ {A = ℕ} 0 1 = cc in omega arith)
-not_end (L.Contract c) = no (λ e. let z : ◌≡◌ {A = ℕ} 0 1 = cc in omega arith)
-not_end (L.Sample x) = no (λ e. let z : ◌≡◌ {A = ℕ} 0 1 = cc in omega arith)
+not_end (L.Header h) = no (λ e. cc)
+not_end (L.Bounds bounds) = no (λ e. cc)
+not_end (L.Setpoint s) = no (λ e. cc)
+not_end (L.Contract c) = no (λ e. cc)
+not_end (L.Sample x) = no (λ e. cc)
 not_end L.End = yes refl
-not_end L.Malformed = no (λ e. let z : ◌≡◌ {A = ℕ} 0 1 = cc in omega arith)
+not_end L.Malformed = no (λ e. cc)
 
 end-here : (so : SoFar) (line : List ℕ) (lines : List (List ℕ)) (n : ℕ) (g : Given) (shares : List ℤ) → line_of line ≡ L.End → accepted (ground so (identifier_of line) L.End) ≡ true
     → after_end so n lines ≡ judged g shares → Parted so (line ∷ lines) g shares
@@ -286,7 +279,7 @@ judged-ends (line ∷ lines) so n g shares e = go (accepted (asked_ground so lin
         → cond t (unless_end a (after_end so (n + 1) lines) (outcome (after_asked so line a) (n + 1) lines)) (refused n (asked_ground so line a)) ≡ judged g shares
         → ((so : SoFar) (n : ℕ) (g : Given) (shares : List ℤ) → outcome so n lines ≡ judged g shares → Parted so lines g shares) → Parted so (line ∷ lines) g shares
     go false p a q e rest = apart e
-    go true p (A.Share s) q e rest = never (sym (early-refused so line s) ∙ rw q at p)
+    go true p (A.Share s) q e rest = true-false (rw q at p) (early-refused so line s)
     go true p (A.Settling said) q e rest = by (not_end said)
       where
         ok : accepted (ground so (identifier_of line) said) ≡ true

@@ -2,7 +2,7 @@
 -- Assumes nothing.
 use Prim.Native.Nat.{ℕ, zero, suc, ◌+◌, ◌*◌, ◌^◌, ◌≤◌, ◌<◌}
 use mathlib.Core.Path.{◌≡◌, refl, sym, ap, ◌∙◌}
-use mathlib.Core.Bool.{Bool, true, false, ◌&&◌}
+use mathlib.Core.Bool.{true, ◌&&◌}
 use mathlib.Core.List.{List, [], ◌∷◌, ◌++◌, append_assoc, append-nil}
 use native.Mathlib.Omega.{arith}
 use native.Mathlib.Nat.{zero-mul, suc-mul, mul-le-mul_right, div-lt_iff_lt-mul}
@@ -12,8 +12,10 @@ use lib.IntN.{ℤ, pos}
 use lib.ListN.{length, drop, length-append, length-drop}
 use lib.Seq.{take-append-le, drop-append-le, drop_at, drop-append-add, take_at, take_all}
 use borrow.Author.Tests.{le-ltb, leb-true}
+use Rattle.std.specs.Prelude.{Some}
 use Rattle.arithmetic.specs.Whole.{least_of, up, down}
 use Rattle.arithmetic.specs.Energy.{kwh_of}
+use Rattle.arithmetic.proofs.Booleans.{true-false, both}
 use Rattle.series.specs.Scan.{each}
 use Rattle.series.specs.Sums.{over_of, sum_of}
 use Rattle.series.proofs.Scanned.{each-length}
@@ -50,7 +52,6 @@ use Rattle.verdict.proofs.Inputs.{proper-of, acceptable-accepted}
 use Rattle.sheets.specs.Verdict.{accepted_text}
 use Rattle.reading.specs.declared.Line.{Line}
 use Rattle.lines.proofs.LineLaws as W
-use Rattle.reading.specs.declared.DirectionField.TheVariants as DF
 use Rattle.reading.specs.declared.share.Asked.TheVariants as A
 use Rattle.meaning.specs.Endings as E
 use Rattle.reading.specs.declared.Line.TheVariants as L
@@ -58,19 +59,12 @@ use Rattle.verdict.specs.Promises as P
 
 -- ---- the bytes of an identifier are neither a tab nor an LF
 
-never : {X : Type 0} → ◌≡◌ {A = Bool} false true → X
-never e = let z : ◌≡◌ {A = ℕ} 0 1 = cc in absurd (omega arith)
-
-both : (s t : Bool) → (s && t) ≡ true → (s ≡ true) × (t ≡ true)
-both true t e = (refl, e)
-both false t e = never e
-
 byte-visible : (b : ℕ) → identifier_byte b ≡ true → Visible b
 byte-visible b e = go (dec_le 45 b)
   where
     go : Dec (45 ≤ b) → 45 ≤ b
     go (yes h) = h
-    go (no h) = never (sym (other b (λ l m. omega arith) (λ l m. omega arith) (λ l m. omega arith) (λ l. omega arith)) ∙ e)
+    go (no h) = true-false e (other b (λ l m. omega arith) (λ l m. omega arith) (λ l m. omega arith) (λ l. omega arith))
 
 bytes-visible : (s : List ℕ) → identifier_bytes s ≡ true → Each Visible s
 unfolding identifier_bytes
@@ -132,7 +126,7 @@ module _ (q : ℕ) (d : Direction) (identifier : List ℕ) (share : ℕ) where
             number_short 8 (pos share) small (omega arith),
           )
 
-      direction-back : (d : Direction) → direction_of (letter_of d ∷ []) ≡ DF.Of d
+      direction-back : (d : Direction) → direction_of (letter_of d ∷ []) ≡ Some d
       unfolding direction_of is_letter
       direction-back Positive = refl
       direction-back Negative = refl

@@ -8,14 +8,16 @@ use native.Mathlib.Omega.{arith}
 use native.Mathlib.Numerals.{add-one}
 use native.Mathlib.Nat.{mul-le-mul}
 use native.Mathlib.Decide.{dec_lt}
-use lib.Dec.{leb, eqb, lit<}
+use lib.Dec.{leb, eqb}
 use lib.IntN.{ℤ}
 use lib.ListN.{length, take, drop, length-set, length-append, drop_of_length-le}
 use lib.Seq.{take-suc-set, drop-drop, drop-cons}
 use borrow.Author.Tests.{leb-false, ne_eqb, eq-eqb}
+use Rattle.std.specs.Prelude.{Ok, Err}
+use Rattle.arithmetic.proofs.Booleans.{true-false}
 use Rattle.vocabulary.specs.declared.refusal.Refusal.{Refusal}
-use Rattle.vocabulary.specs.declared.refusal.Refusal.TheVariants.{None, WrongMoment, BadIdentifier, BadLine, NoEnd, MisplacedShare}
-use Rattle.vocabulary.specs.Refusals.{accepted}
+use Rattle.vocabulary.specs.declared.refusal.Refusal.TheVariants.{WrongMoment, BadIdentifier, BadLine, NoEnd, MisplacedShare}
+use Rattle.vocabulary.specs.Refusals.{Ruling, accepted}
 use Rattle.vocabulary.specs.Grounds.{on, first}
 use Rattle.vocabulary.specs.declared.direction.Direction.{Direction}
 use Rattle.vocabulary.specs.declared.direction.Direction.TheVariants.{Positive, Negative}
@@ -23,7 +25,7 @@ use Rattle.vocabulary.specs.declared.header.Header.{Header}
 use Rattle.vocabulary.specs.declared.contract.Contract.{Contract}
 use Rattle.vocabulary.specs.declared.sample.Sample.{Sample}
 use Rattle.vocabulary.specs.declared.acceptance.Bounds.{Bounds}
-use Rattle.vocabulary.proofs.Answers.{Answer, is_none, is_some, answer}
+use Rattle.vocabulary.proofs.Answers.{err-refused}
 use Rattle.contracts.specs.Identifier.{well_formed}
 use Rattle.contracts.proofs.Accepted.{passed}
 use Rattle.claims.specs.Claims.{samples_of}
@@ -49,7 +51,7 @@ use Rattle.meaning.specs.Meaning.{SoFar, nothing, these, deal_of, lacks, grounds
 use Rattle.meaning.specs.Endings.{Proper}
 use Rattle.meaning.proofs.Proper.{proper-headed, proper-bounds, proper-setpoint, proper-contract, proper-sample, bounds-early, setpoint-early, agreed}
 use Rattle.settlement.proofs.HeaderLaws.{opened-quarters}
-use Rattle.meaning.proofs.Moments.{given, none-taken}
+use Rattle.meaning.proofs.Moments.{none-taken}
 use Rattle.meaning.proofs.Figures.{few-deals}
 use Rattle.meaning.proofs.Standing.{Meets, counted, header-ground, meets-opened, contract-ground, meets-contracted}
 use Rattle.meaning.proofs.Standing.{sample-ground, sample-whole, meets-sampled, waits, waits-not, sheet-is, meets-taken}
@@ -61,12 +63,12 @@ use Rattle.checking.specs.declared.checker.Checker.{Checker}
 use Rattle.judging.specs.Kept.{Kept, with_sheets}
 use Rattle.judging.specs.Wanted.{early_ground, is_wanted}
 use Rattle.judging.specs.Judged.{judged_of}
-use Rattle.checking.specs.Checker.{checker_at, Standing, standing, empty_checker, stopped_by, opened_by, answered_by, ended_by, quarter_turn}
+use Rattle.checking.specs.Checker.{checker_at, Standing, standing, empty_checker, stopped_by, unless, turn_unless, opened_by, answered_by, ended_by, quarter_turn}
 use Rattle.checking.specs.Checker.{sample_turn, ground_of, share_turn, first_by, next_turn, late_ground, later_turn, line_turn, ruled_text, finish_text}
 use Rattle.verdict.specs.Wanted.{Wanted, wanted_in, per_quarter_hour}
 use Rattle.verdict.specs.Checked.{asked_grounds, asked_ground, after_asked, is_next, too_late, share_grounds, share_ground, with_share, Outcome}
-use Rattle.verdict.specs.Checked.{refused, judged, unless_missing, share_lines, after_end, unless_end, outcome, outcome_of, told, checked}
-use Rattle.verdict.proofs.Outcomes.{never, early-refused, late-refused, surplus-refused}
+use Rattle.verdict.specs.Checked.{judged, unless_missing, share_lines, after_end, unless_end, outcome, outcome_of, told, checked}
+use Rattle.verdict.proofs.Outcomes.{early-refused, surplus-refused}
 use Rattle.verdict.proofs.Gaps.{Room, KeptMeets, kept-none, kept-sample, kept-taken}
 use Rattle.verdict.proofs.Places.{wanted-length, wanted-count, next-same}
 use Rattle.verdict.proofs.Judging.{judged-same}
@@ -75,6 +77,16 @@ use Rattle.reading.specs.declared.Line.TheVariants as L
 use Rattle.reading.specs.declared.share.Asked.TheVariants as A
 use Rattle.judging.specs.Kept as K
 use Rattle.judging.specs.Wanted as C
+
+-- ---- nothing is refused, or why it is
+
+data Ruled (r : Ruling) : Type 0 where
+  allows : r ≡ Ok tt → Ruled r
+  refuses : (refusal : Refusal) → r ≡ Err refusal → Ruled r
+
+ruled : (r : Ruling) → Ruled r
+ruled (Ok done) = allows refl
+ruled (Err refusal) = refuses refusal refl
 
 -- ---- how the checker stands to what was given
 
@@ -96,17 +108,13 @@ record Said (g : Given) (n : ℕ) (said : List ℤ) (run : Run) (kept : Kept) : 
 -- ---- a line up to E is refused, or it is E, or the next one follows
 
 data Step (so : SoFar) (number : ℕ) (line : List ℕ) (a : Asked) (s : Standing) : Type 0 where
-  stops : accepted (asked_ground so line a) ≡ false → (run : Run) (kept : Kept) → s ≡ standing (stopped_by run number (asked_ground so line a)) kept → Step so number line a s
+  stops : (refusal : Refusal) → asked_ground so line a ≡ Err refusal → (run : Run) (kept : Kept) → s ≡ standing (stopped_by run number refusal) kept → Step so number line a s
   goes_on_lem : accepted (asked_ground so line a) ≡ true → ((ended rest : Outcome) → unless_end a ended rest ≡ rest) → Stands (after_asked so line a) s → Step so number line a s
   ends : accepted (asked_ground so line a) ≡ true → a ≡ A.Settling L.End → (g : Given) (run : Run) (kept : Kept) → so ≡ these g → s ≡ standing (checker_at (Ended 0) run) kept
       → Said g 0 [] run kept → Step so number line a s
 
 as_step : {so : SoFar} {number : ℕ} {line : List ℕ} {a : Asked} {s t : Standing} → s ≡ t → Step so number line a t → Step so number line a s
 as_step {so} {number} {line} {a} e x = subst (λ (u : Standing). Step so number line a u) (sym e) x
-
-stopped : (so : SoFar) (number : ℕ) (line : List ℕ) (a : Asked) (run : Run) (kept : Kept) (r : Refusal) → r ≡ asked_ground so line a → accepted r ≡ false
-    → Step so number line a (standing (stopped_by run number r) kept)
-stopped so number line a run kept r e f = stops (rw (← e) f) run kept (ap (λ (x : Refusal). standing (stopped_by run number x) kept) e)
 
 -- ---- the first line
 
@@ -118,61 +126,62 @@ none-taken-yet : (h : Header) → (run_of h).account.taken ≡ 0
 unfolding run_of fresh_run no_account
 none-taken-yet h = refl
 
-opened-so : (run : Run) (number : ℕ) (h : Header) → open_refusal h ≡ None → opened_by run number h ≡ checker_at Open (run_of h)
+opened-so : (run : Run) (number : ℕ) (h : Header) → open_refusal h ≡ Ok tt → opened_by run number h ≡ checker_at Open (run_of h)
 unfolding opened_by opened_of
 opened-so run number h e = rw e
 
-opening-refused : (run : Run) (number : ℕ) (h : Header) → accepted (open_refusal h) ≡ false → opened_by run number h ≡ stopped_by run number (open_refusal h)
+opening-refused : (run : Run) (number : ℕ) (h : Header) (refusal : Refusal) → open_refusal h ≡ Err refusal → opened_by run number h ≡ stopped_by run number refusal
 unfolding opened_by opened_of
-opening-refused run number h f = rw f
+opening-refused run number h refusal e = rw e
 
 header-step : (run : Run) (kept : Kept) → Room kept → (number : ℕ) (line : List ℕ) (h : Header)
     → Step nothing number line (A.Settling (L.Header h)) (standing (opened_by run number h) kept)
 unfolding asked_grounds grounds after
-header-step run kept room number line h = go (answer (open_refusal h))
+header-step run kept room number line h = go (ruled (open_refusal h))
   where
-    go : Answer (open_refusal h) → Step nothing number line (A.Settling (L.Header h)) (standing (opened_by run number h) kept)
-    go (is_none e) =
+    go : Ruled (open_refusal h) → Step nothing number line (A.Settling (L.Header h)) (standing (opened_by run number h) kept)
+    go (allows e) =
         as_step (ap (λ (c : Checker). standing c kept) (opened-so run number h e))
         (goes_on_lem (rw (← header-ground h, e)) (λ ended rest. refl)
         (within (meets-opened h e) (proper-headed h (sym (header-ground h) ∙ e)) (none_filled h) (kept-none (headed h) (run_of h).account.taken kept room (none-taken-yet h))))
-    go (is_some f) =
-        as_step (ap (λ (c : Checker). standing c kept) (opening-refused run number h f))
-        (stopped nothing number line (A.Settling (L.Header h)) run kept (open_refusal h) (header-ground h) f)
+    go (refuses refusal e) =
+        as_step (ap (λ (c : Checker). standing c kept) (opening-refused run number h refusal e))
+        (stops refusal (sym (header-ground h) ∙ e) run kept refl)
 
 first_step : (run : Run) (kept : Kept) → Room kept → (number : ℕ) (line : List ℕ) (a : Asked) → Step nothing number line a (standing (first_by run number a) kept)
 unfolding asked_grounds grounds
 first_step run kept room number line (A.Settling (L.Header h)) = header-step run kept room number line h
-first_step run kept room number line (A.Settling (L.Bounds bounds)) = stopped nothing number line (A.Settling (L.Bounds bounds)) run kept WrongMoment refl refl
-first_step run kept room number line (A.Settling (L.Setpoint s)) = stopped nothing number line (A.Settling (L.Setpoint s)) run kept WrongMoment refl refl
-first_step run kept room number line (A.Settling (L.Contract c)) = stopped nothing number line (A.Settling (L.Contract c)) run kept WrongMoment refl refl
-first_step run kept room number line (A.Settling (L.Sample x)) = stopped nothing number line (A.Settling (L.Sample x)) run kept WrongMoment refl refl
-first_step run kept room number line (A.Settling L.End) = stopped nothing number line (A.Settling L.End) run kept WrongMoment refl refl
-first_step run kept room number line (A.Settling L.Malformed) = stopped nothing number line (A.Settling L.Malformed) run kept BadLine refl refl
-first_step run kept room number line (A.Share s) = stopped nothing number line (A.Share s) run kept WrongMoment refl refl
+first_step run kept room number line (A.Settling (L.Bounds bounds)) = stops WrongMoment refl run kept refl
+first_step run kept room number line (A.Settling (L.Setpoint s)) = stops WrongMoment refl run kept refl
+first_step run kept room number line (A.Settling (L.Contract c)) = stops WrongMoment refl run kept refl
+first_step run kept room number line (A.Settling (L.Sample x)) = stops WrongMoment refl run kept refl
+first_step run kept room number line (A.Settling L.End) = stops WrongMoment refl run kept refl
+first_step run kept room number line (A.Settling L.Malformed) = stops BadLine refl run kept refl
+first_step run kept room number line (A.Share s) = stops WrongMoment refl run kept refl
 
 -- ---- a line of a block, or a contract: nothing was taken yet
 
 none_yet : (g : Given) (run : Run) → Meets g run → length g.samples ≡ 0 → run.account.taken ≡ 0
 none_yet g run m e = none-taken (interval_in g) run.tape.filled run.account.taken (omega (arith, counted g run m))
 
-module _ (g : Given) (run : Run) (kept : Kept) (number : ℕ) (line : List ℕ) (said : Line) (next : Run) (r : Refusal) (same : r ≡ asked_ground (these g) line (A.Settling said))
+module _ (g : Given) (run : Run) (kept : Kept) (number : ℕ) (line : List ℕ) (said : Line) (next : Run) (r : Ruling) (same : r ≡ asked_ground (these g) line (A.Settling said))
     (on : (ended rest : Outcome) → unless_end (A.Settling said) ended rest ≡ rest) where
-  answered-so : r ≡ None → answered_by run number (R.answer_of r next run) ≡ checker_at Open next
+  answered-so : r ≡ Ok tt → answered_by run number (R.answer_of r next run) ≡ checker_at Open next
   unfolding answered_by
   answered-so e = rw e
 
-  answer-refused : accepted r ≡ false → answered_by run number (R.answer_of r next run) ≡ stopped_by run number r
+  answer-refused : (refusal : Refusal) → r ≡ Err refusal → answered_by run number (R.answer_of r next run) ≡ stopped_by run number refusal
   unfolding answered_by
-  answer-refused f = rw f
+  answer-refused refusal e = rw e
 
-  answered-step : (r ≡ None → Stands (after_asked (these g) line (A.Settling said)) (standing (checker_at Open next) kept))
+  answered-step : (r ≡ Ok tt → Stands (after_asked (these g) line (A.Settling said)) (standing (checker_at Open next) kept))
       → Step (these g) number line (A.Settling said) (standing (answered_by run number (R.answer_of r next run)) kept)
-  answered-step stands = go (answer r)
+  answered-step stands = go (ruled r)
     where
-      go : Answer r → Step (these g) number line (A.Settling said) (standing (answered_by run number (R.answer_of r next run)) kept)
-      go (is_none e) = as_step (ap (λ (c : Checker). standing c kept) (answered-so e)) (goes_on_lem (rw (← same, e)) on (stands e))
-      go (is_some f) = as_step (ap (λ (c : Checker). standing c kept) (answer-refused f)) (stopped (these g) number line (A.Settling said) run kept r same f)
+      go : Ruled r → Step (these g) number line (A.Settling said) (standing (answered_by run number (R.answer_of r next run)) kept)
+      go (allows e) = as_step (ap (λ (c : Checker). standing c kept) (answered-so e)) (goes_on_lem (rw (← same, e)) on (stands e))
+      go (refuses refusal e) =
+          as_step (ap (λ (c : Checker). standing c kept) (answer-refused refusal e)) (stops refusal (sym same ∙ e) run kept refl)
 
 same-room : (g : Given) (d : Direction) (x : Deal) (n : ℕ) → n < per_quarter g → n < per_quarter (with_deal d x g)
 same-room g Positive x n r = r
@@ -215,8 +224,14 @@ module _ (g : Given) (run : Run) (m : Meets g run) (p : Proper g) (r : run.tape.
   unfolding early_ground asked_grounds
   early-same s = rw lacks-same
 
-  early-step : (s : Share) → Step (these g) number line (A.Share s) (standing (stopped_by run number (early_ground run (whose_of line))) kept)
-  early-step s = stopped (these g) number line (A.Share s) run kept (early_ground run (whose_of line)) (early-same s) (rw (early-same s) (early-refused (these g) line s))
+  early-step : (s : Share) → Step (these g) number line (A.Share s) (standing (unless run number (early_ground run (whose_of line)) (checker_at Open run)) kept)
+  early-step s = rw (early-same s) (go (ruled (asked_ground (these g) line (A.Share s))))
+    where
+      go : Ruled (asked_ground (these g) line (A.Share s))
+          → Step (these g) number line (A.Share s) (standing (unless run number (asked_ground (these g) line (A.Share s)) (checker_at Open run)) kept)
+      go (allows e) = true-false (ap accepted e) (early-refused (these g) line s)
+      go (refuses refusal e) =
+          as_step (ap (λ (r : Ruling). standing (unless run number r (checker_at Open run)) kept) e) (stops refusal e run kept refl)
 
 -- ---- a sample
 
@@ -235,17 +250,17 @@ same-quarters : (run : Run) (x : Sample) → (sampled run x).plan.quarters ≡ r
 unfolding R.sampled
 same-quarters run x = refl
 
-some_left : (run : Run) (x : Sample) → R.sample_ground run x.setpoint x.actual ≡ None → run.account.taken < run.plan.quarters
+some_left : (run : Run) (x : Sample) → R.sample_ground run x.setpoint x.actual ≡ Ok tt → run.account.taken < run.plan.quarters
 unfolding R.sample_ground sample_refusal
 some_left run x e =
-    let p = passed (leb (samples_of run.past) run.tape.filled) WrongMoment _ (lit< tt) (none_left run.load.left _ e).1 in
-    leb-false run.plan.quarters run.account.taken (passed (leb run.plan.quarters run.account.taken) WrongMoment _ (lit< tt) p.1).0
+    let p = passed (leb (samples_of run.past) run.tape.filled) WrongMoment _ (none_left run.load.left _ e).1 in
+    leb-false run.plan.quarters run.account.taken (passed (leb run.plan.quarters run.account.taken) WrongMoment _ p.1).0
 
-waiting-not : (kept : Kept) (run : Run) → take_ground run ≡ WrongMoment → quarter_turn kept run ≡ standing (checker_at Open run) kept
+waiting-not : (kept : Kept) (run : Run) → take_ground run ≡ Err WrongMoment → quarter_turn kept run ≡ standing (checker_at Open run) kept
 unfolding quarter_turn taken_of
 waiting-not kept run e = rw e
 
-taken-so : (kept : Kept) (run : Run) → take_ground run ≡ None
+taken-so : (kept : Kept) (run : Run) → take_ground run ≡ Ok tt
     → quarter_turn kept run ≡ standing (checker_at Open (settled_of run (quarter_in run))) (with_sheets kept run.account.taken (quarter_in run).sheets)
 unfolding quarter_turn taken_of
 taken-so kept run e = rw e
@@ -280,16 +295,15 @@ taken_in g run m = omega (arith, counted g run m)
 
 module _ (g : Given) (run : Run) (m : Meets g run) (p : Proper g) (r : run.tape.filled < per_quarter g) (kept : Kept) (k : KeptMeets g run.account.taken kept) (number : ℕ) (line : List ℕ) where
   module _ (x : Sample) where
-    sampled-so : R.sample_ground run x.setpoint x.actual ≡ None → sample_turn kept run number x ≡ quarter_turn kept (sampled run x)
+    sampled-so : R.sample_ground run x.setpoint x.actual ≡ Ok tt → sample_turn kept run number x ≡ quarter_turn kept (sampled run x)
     unfolding sample_turn sampled_of
     sampled-so e = rw e
 
-    sample-refused : accepted (R.sample_ground run x.setpoint x.actual) ≡ false
-        → sample_turn kept run number x ≡ standing (stopped_by run number (R.sample_ground run x.setpoint x.actual)) kept
+    sample-refused : (refusal : Refusal) → R.sample_ground run x.setpoint x.actual ≡ Err refusal → sample_turn kept run number x ≡ standing (stopped_by run number refusal) kept
     unfolding sample_turn sampled_of
-    sample-refused f = rw f
+    sample-refused refusal e = rw e
 
-    sampled-stands : R.sample_ground run x.setpoint x.actual ≡ None → Stands (these (with_sample x g)) (quarter_turn kept (sampled run x))
+    sampled-stands : R.sample_ground run x.setpoint x.actual ≡ Ok tt → Stands (these (with_sample x g)) (quarter_turn kept (sampled run x))
     sampled-stands e =
         quarter-stands (with_sample x g) (sampled run x) (meets-sampled g run m x r (sample-whole run x e)) (proper-sample g x p (sym (sample-ground g run m r x) ∙ e))
         (rw (same_taken run x, same-quarters run x) (some_left run x e)) kept
@@ -297,48 +311,48 @@ module _ (g : Given) (run : Run) (m : Meets g run) (p : Proper g) (r : run.tape.
 
     sample-step : Step (these g) number line (A.Settling (L.Sample x)) (sample_turn kept run number x)
     unfolding asked_grounds grounds after
-    sample-step = go (answer (R.sample_ground run x.setpoint x.actual))
+    sample-step = go (ruled (R.sample_ground run x.setpoint x.actual))
       where
-        go : Answer (R.sample_ground run x.setpoint x.actual) → Step (these g) number line (A.Settling (L.Sample x)) (sample_turn kept run number x)
-        go (is_none e) = as_step (sampled-so e) (goes_on_lem (rw (← sample-ground g run m r x, e)) (λ ended rest. refl) (sampled-stands e))
-        go (is_some f) =
-            as_step (sample-refused f) (stopped (these g) number line (A.Settling (L.Sample x)) run kept (R.sample_ground run x.setpoint x.actual) (sample-ground g run m r x) f)
+        go : Ruled (R.sample_ground run x.setpoint x.actual) → Step (these g) number line (A.Settling (L.Sample x)) (sample_turn kept run number x)
+        go (allows e) = as_step (sampled-so e) (goes_on_lem (rw (← sample-ground g run m r x, e)) (λ ended rest. refl) (sampled-stands e))
+        go (refuses refusal e) =
+            as_step (sample-refused refusal e) (stops refusal (sym (sample-ground g run m r x) ∙ e) run kept refl)
 
   -- ---- E
 
-  ended_so : end_refusal run.account.taken run.plan.quarters ≡ None → ended_by run number ≡ checker_at (Ended 0) run
+  ended_so : end_refusal run.account.taken run.plan.quarters ≡ Ok tt → ended_by run number ≡ checker_at (Ended 0) run
   unfolding ended_by ended_of
   ended_so e = rw e
 
-  end_refused : accepted (end_refusal run.account.taken run.plan.quarters) ≡ false → ended_by run number ≡ stopped_by run number (end_refusal run.account.taken run.plan.quarters)
+  end_refused : (refusal : Refusal) → end_refusal run.account.taken run.plan.quarters ≡ Err refusal → ended_by run number ≡ stopped_by run number refusal
   unfolding ended_by ended_of
-  end_refused f = rw f
+  end_refused refusal e = rw e
 
-  none_said : end_refusal run.account.taken run.plan.quarters ≡ None → Said g 0 [] run kept
+  none_said : end_refusal run.account.taken run.plan.quarters ≡ Ok tt → Said g 0 [] run kept
   none_said e =
       let all = all-taken g run m p e in
       record { meets = m; proper = p; taken = all; rows = rw all at k; count = refl; there = refl; few = omega arith }
 
   end_step : Step (these g) number line (A.Settling L.End) (standing (ended_by run number) kept)
   unfolding asked_grounds grounds
-  end_step = go (answer (end_refusal run.account.taken run.plan.quarters))
+  end_step = go (ruled (end_refusal run.account.taken run.plan.quarters))
     where
-      go : Answer (end_refusal run.account.taken run.plan.quarters) → Step (these g) number line (A.Settling L.End) (standing (ended_by run number) kept)
-      go (is_none e) =
+      go : Ruled (end_refusal run.account.taken run.plan.quarters) → Step (these g) number line (A.Settling L.End) (standing (ended_by run number) kept)
+      go (allows e) =
           as_step (ap (λ (c : Checker). standing c kept) (ended_so e)) (ends (rw (← end-ground g run m p r, e)) refl g run kept refl refl (none_said e))
-      go (is_some f) =
-          as_step (ap (λ (c : Checker). standing c kept) (end_refused f))
-          (stopped (these g) number line (A.Settling L.End) run kept (end_refusal run.account.taken run.plan.quarters) (end-ground g run m p r) f)
+      go (refuses refusal e) =
+          as_step (ap (λ (c : Checker). standing c kept) (end_refused refusal e))
+          (stops refusal (sym (end-ground g run m p r) ∙ e) run kept refl)
 
   next-step : (a : Asked) → Step (these g) number line a (next_turn kept run number line a)
   unfolding asked_grounds grounds
-  next-step (A.Settling (L.Header h)) = stopped (these g) number line (A.Settling (L.Header h)) run kept WrongMoment refl refl
+  next-step (A.Settling (L.Header h)) = stops WrongMoment refl run kept refl
   next-step (A.Settling (L.Bounds bounds)) = bounds-step g run m p r kept k number line bounds
   next-step (A.Settling (L.Setpoint s)) = setpoint-step g run m p r kept k number line s
   next-step (A.Settling (L.Contract c)) = contract-step g run m p r kept k number line c
   next-step (A.Settling (L.Sample x)) = sample-step x
   next-step (A.Settling L.End) = end_step
-  next-step (A.Settling L.Malformed) = stopped (these g) number line (A.Settling L.Malformed) run kept BadLine refl refl
+  next-step (A.Settling L.Malformed) = stops BadLine refl run kept refl
   next-step (A.Share s) = early-step g run m p r kept k number line s
 
 line_step : {so : SoFar} {s : Standing} → Stands so s → (number : ℕ) (line : List ℕ) → Step so number line (asked_of line) (line_turn s number line)
@@ -349,7 +363,7 @@ line_step (within {g} {run} {kept} m p r k) number line = next-step g run m p r 
 -- ---- a line after E
 
 data Later (g : Given) (n : ℕ) (said : List ℤ) (number : ℕ) (line : List ℕ) (a : Asked) (s : Standing) : Type 0 where
-  stops-there : accepted (share_ground (drop n (wanted_in g)) line a) ≡ false → (run : Run) (kept : Kept) → s ≡ standing (stopped_by run number (share_ground (drop n (wanted_in g)) line a)) kept
+  stops-there : (refusal : Refusal) → share_ground (drop n (wanted_in g)) line a ≡ Err refusal → (run : Run) (kept : Kept) → s ≡ standing (stopped_by run number refusal) kept
       → Later g n said number line a s
   one-said : accepted (share_ground (drop n (wanted_in g)) line a) ≡ true → (run : Run) (kept : Kept) → s ≡ standing (checker_at (Ended (n + 1)) run) kept
       → Said g (n + 1) (with_share said a) run kept → Later g n said number line a s
@@ -396,7 +410,7 @@ module _ (g : Given) (n : ℕ) (said : List ℤ) (run : Run) (kept : Kept) (x : 
       go (no h) =
           let l : length (wanted_in g) ≤ n = omega (arith, wanted-length g (quarters_in g)) in
           let d : drop n (wanted_in g) ≡ [] = drop_of_length-le (wanted_in g) l in
-          never (sym (surplus-refused line s) ∙ rw d at e)
+          true-false (rw d at e) (surplus-refused line s)
 
   more-said : n < quarters_in g * per_quarter_hour g → Said g (n + 1) (said ++ (s.kwh ∷ [])) run (K.with_share kept n s.kwh)
   unfolding K.with_share
@@ -418,18 +432,18 @@ module _ (g : Given) (n : ℕ) (said : List ℤ) (run : Run) (kept : Kept) (x : 
 
   share-step : Later g n said number line (A.Share s) (share_turn kept run number n s (whose_of line))
   unfolding share_turn
-  share-step = rw ground-same (go (accepted (share_ground (drop n (wanted_in g)) line (A.Share s))) refl)
+  share-step = rw ground-same (go (share_ground (drop n (wanted_in g)) line (A.Share s)) refl)
     where
-      go : (t : Bool) → accepted (share_ground (drop n (wanted_in g)) line (A.Share s)) ≡ t → Later g n said number line (A.Share s)
-          (cond t (standing (checker_at (Ended (n + 1)) run) (K.with_share kept n s.kwh)) (standing (stopped_by run number (share_ground (drop n (wanted_in g)) line (A.Share s))) kept))
-      go true e = one-said e run (K.with_share kept n s.kwh) refl (more-said (one_wanted e))
-      go false e = stops-there e run kept refl
+      go : (r : Ruling) → share_ground (drop n (wanted_in g)) line (A.Share s) ≡ r
+          → Later g n said number line (A.Share s) (turn_unless kept run number r (standing (checker_at (Ended (n + 1)) run) (K.with_share kept n s.kwh)))
+      go (Ok done) e = one-said (ap accepted e) run (K.with_share kept n s.kwh) refl (more-said (one_wanted (ap accepted e)))
+      go (Err refusal) e = stops-there refusal e run kept refl
 
 later-step : (g : Given) (n : ℕ) (said : List ℤ) (run : Run) (kept : Kept) → Said g n said run kept → (number : ℕ) (line : List ℕ) (a : Asked)
     → Later g n said number line a (later_turn kept run number line n a)
 unfolding share_grounds
 later-step g n said run kept x number line (A.Settling l) =
-    stops-there (late-refused (drop n (wanted_in g)) line l) run kept (ap (λ (r : Refusal). standing (stopped_by run number r) kept) (late-same l))
+    stops-there (too_late l) refl run kept (ap (λ (r : Refusal). standing (stopped_by run number r) kept) (late-same l))
 later-step g n said run kept x number line (A.Share s) = share-step g n said run kept x number line s
 
 -- ---- line after line
@@ -442,7 +456,7 @@ stopped-stays run kept number r n [] = refl
 stopped-stays run kept number r n (line ∷ lines) = stopped-stays run kept number r (n + 1) lines
 
 stopped-said : (run : Run) (kept : Kept) (number : ℕ) (r : Refusal) (n count : ℕ) (lines : List (List ℕ))
-    → finish_text (each_line line_turn (standing (stopped_by run number r) kept) n lines) count ≡ refusal_text number r
+    → finish_text (each_line line_turn (standing (stopped_by run number r) kept) n lines) count ≡ refusal_text number (Err r)
 unfolding finish_text stopped_by
 stopped-said run kept number r n count lines = ap (λ (s : Standing). finish_text s count) (stopped-stays run kept number r n lines)
 
@@ -466,7 +480,7 @@ module _ (g : Given) (n : ℕ) (said : List ℤ) (run : Run) (kept : Kept) (x : 
       quarters-at = ended-quarters run ∙ x.taken
 
       go : Dec (n < quarters_in g * per_quarter_hour g)
-          → cond (eqb (quarters_in g * per_quarter_hour g) n) (verdict_text (judged_of run.books kept (quarters_in g))) (refusal_text (count + 1) MisplacedShare)
+          → cond (eqb (quarters_in g * per_quarter_hour g) n) (verdict_text (judged_of run.books kept (quarters_in g))) (refusal_text (count + 1) (Err MisplacedShare))
           ≡ told (unless_missing (drop n (wanted_in g)) (count + 1) (judged g said))
       go (yes h) =
           let l : n < length (wanted_in g) = omega (arith, wanted-length g (quarters_in g)) in
@@ -484,7 +498,7 @@ module _ (m count : ℕ) (line : List ℕ) (us : List (List ℕ)) (g : Given) (n
   share-told : (s : Standing) → Later g n said (m + 1) line (asked_of line) s
       → finish_text (each_line line_turn s (m + 1) us) count ≡ told (share_lines g (drop n (wanted_in g)) said (m + 1) (line ∷ us))
   unfolding share_lines
-  share-told s (stops-there f run kept e) = rw (e, f) (stopped-said run kept (m + 1) (share_ground (drop n (wanted_in g)) line (asked_of line)) (m + 1) count us)
+  share-told s (stops-there refusal f run kept e) = rw (e, f, err-refused refusal) (stopped-said run kept (m + 1) refusal (m + 1) count us)
   share-told s (one-said t run kept e x) = rw (e, t, drop-drop 1 n (wanted_in g)) (follows (with_share said (asked_of line)) run kept x)
 
 shares-told : (us : List (List ℕ)) (g : Given) (n : ℕ) (said : List ℤ) (run : Run) (kept : Kept) → Said g n said run kept → (m count : ℕ) → count ≡ m + length us → count + 1 < 2 ^ 64
@@ -498,7 +512,7 @@ shares-told (line ∷ us) g n said run kept x m count e h =
     (later_turn kept run (m + 1) line n (asked_of line)) (later-step g n said run kept x (m + 1) line (asked_of line))
 
 -- the lines up to E
-open-end : {so : SoFar} {s : Standing} → Stands so s → (count : ℕ) → count + 1 < 2 ^ 64 → finish_text s count ≡ refusal_text (count + 1) NoEnd
+open-end : {so : SoFar} {s : Standing} → Stands so s → (count : ℕ) → count + 1 < 2 ^ 64 → finish_text s count ≡ refusal_text (count + 1) (Err NoEnd)
 unfolding finish_text
 open-end (before room) count h = let e : (count + 1) % 2 ^ 64 ≡ count + 1 = omega arith in rw e
 open-end (within m p r k) count h = let e : (count + 1) % 2 ^ 64 ≡ count + 1 = omega arith in rw e
@@ -507,7 +521,7 @@ module _ (n count : ℕ) (line : List ℕ) (lines : List (List ℕ)) (counts : c
     (follows : (so : SoFar) (s : Standing) → Stands so s → finish_text (each_line line_turn s (n + 1) lines) count ≡ told (outcome so (n + 1 + 1) lines)) where
   line-told : (so : SoFar) (s : Standing) → Step so (n + 1) line (asked_of line) s → finish_text (each_line line_turn s (n + 1) lines) count ≡ told (outcome so (n + 1) (line ∷ lines))
   unfolding outcome
-  line-told so s (stops f run kept e) = rw (e, f) (stopped-said run kept (n + 1) (asked_ground so line (asked_of line)) (n + 1) count lines)
+  line-told so s (stops refusal f run kept e) = rw (e, f, err-refused refusal) (stopped-said run kept (n + 1) refusal (n + 1) count lines)
   line-told so s (goes_on_lem t on x) =
       rw (t, on (after_end so (n + 1 + 1) lines) (outcome (after_asked so line (asked_of line)) (n + 1 + 1) lines)) (follows (after_asked so line (asked_of line)) s x)
   line-told so s (ends t a g run kept o e x) =

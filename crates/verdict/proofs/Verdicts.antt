@@ -1,12 +1,13 @@
 -- The verdict on shares: it accepts exactly where all quarter hours and directions are acceptable, and names the first that is not otherwise.
 -- Assumes nothing.
 use Prim.Native.Nat.{ℕ, zero, suc, ◌<◌}
-use mathlib.Core.Path.{◌≡◌, refl, sym, ◌∙◌}
+use mathlib.Core.Path.{◌≡◌, refl}
 use mathlib.Core.Bool.{Bool, true, false, cond}
 use mathlib.Core.List.{List, [], ◌∷◌, ◌++◌}
 use native.Mathlib.Omega.{arith}
 use native.Mathlib.Decide.{dec_lt}
 use lib.IntN.{ℤ}
+use Rattle.arithmetic.proofs.Booleans.{true-false}
 use Rattle.shares.proofs.Acceptance.{tested-acceptable, acceptable-tested}
 use Rattle.vocabulary.specs.declared.direction.Direction.{Direction}
 use Rattle.vocabulary.specs.declared.direction.Direction.TheVariants.{Positive, Negative}
@@ -21,16 +22,13 @@ abbrev or_else : Verdict → Verdict → Verdict
 or_else (Accepted quarters) next = next
 or_else (Failing q d) next = Failing q d
 
-clash : {P : Type 0} → ◌≡◌ {A = Bool} true false → P
-clash e = let z : ◌≡◌ {A = ℕ} 0 1 = cc in absurd (omega arith)
-
 module _ (g : Given) (shares : List ℤ) where
   -- a direction of a quarter hour is acceptable, as it is tested and as it is said
   holds : (q : ℕ) (d : Direction) → acceptable_at g shares q d ≡ true → AcceptableAt g shares q d
   holds q d e = tested-acceptable (surplus_in d g q) (gaps_in d g q) (shares_at d g q shares) e
 
   fails : (q : ℕ) (d : Direction) → acceptable_at g shares q d ≡ false → AcceptableAt g shares q d → ⊥
-  fails q d e a = clash (sym (acceptable-tested (surplus_in d g q) (gaps_in d g q) (shares_at d g q shares) a) ∙ e)
+  fails q d e a = true-false (acceptable-tested (surplus_in d g q) (gaps_in d g q) (shares_at d g q shares) a) e
 
   first-join : (xs ys : List Side) → first_failing g shares (xs ++ ys) ≡ or_else (first_failing g shares xs) (first_failing g shares ys)
   unfolding first_failing
@@ -93,7 +91,7 @@ module _ (g : Given) (shares : List ℤ) where
     where
       go : (v : Verdict) → Found (quarters_in g) v → v ≡ Accepted n → AllAcceptable g shares
       go v (all_hold e h) a = h
-      go v (one-fails q d e h x before) a = let z : ◌≡◌ {A = ℕ} 0 1 = cc in absurd (omega arith)
+      go v (one-fails q d e h x before) a = cc
 
   -- otherwise the first that is not
   pub failing-first : (q : ℕ) (d : Direction) → verdict_of g shares ≡ Failing q d → FirstFailing g shares q d
@@ -101,7 +99,7 @@ module _ (g : Given) (shares : List ℤ) where
   failing-first q d = go (first_failing g shares (sides_up_to (quarters_in g))) (found (quarters_in g))
     where
       go : (v : Verdict) → Found (quarters_in g) v → v ≡ Failing q d → FirstFailing g shares q d
-      go v (all_hold e h) a = let z : ◌≡◌ {A = ℕ} 0 1 = cc in absurd (omega arith)
+      go v (all_hold e h) a = cc
       go v (one-fails p c e h x before) a =
           let q' : p ≡ q = cc in
           let d' : c ≡ d = cc in

@@ -1,11 +1,11 @@
 -- THE MEANING OF AN INPUT TO THE CHECK OF SHARES: what is refused, and what is printed (docs/RULES.md, 'Refusals', 'Text').
 -- Up to E it is an input that is settled, and crates/meaning says what it means; after E come the U lines.
-use Rattle.std.specs.Prelude.{ℕ, ◌+◌, Bool, true, false, cond, not, ◌&&◌, List, [], ◌∷◌, ◌++◌, eqb, ℤ, pos, drop}
+use Rattle.std.specs.Prelude.{ℕ, ◌+◌, Bool, true, false, cond, not, ◌&&◌, List, [], ◌∷◌, ◌++◌, eqb, ℤ, pos, drop, Err}
 use Rattle.std.specs.Int.Signed.{lt_z}
 use Rattle.arithmetic.specs.Whole.{up}
 use Rattle.vocabulary.specs.declared.refusal.Refusal.{Refusal}
 use Rattle.vocabulary.specs.declared.refusal.Refusal.TheVariants.{WrongMoment, BadIdentifier, BadBlockLength, MisplacedShare, BadLine, NoEnd}
-use Rattle.vocabulary.specs.Refusals.{accepted}
+use Rattle.vocabulary.specs.Refusals.{Ruling, accepted}
 use Rattle.vocabulary.specs.Grounds.{Ground, on, only, first}
 use Rattle.contracts.specs.Identifier.{well_formed, same_bytes}
 use Rattle.sheets.specs.Sheet.{letter_of, refusal_text}
@@ -34,7 +34,7 @@ asked_grounds (these g) line (A.Share s) =
     ∷ on MisplacedShare true
     ∷ []
 
-abbrev pub asked_ground : SoFar → List ℕ → Asked → Refusal
+abbrev pub asked_ground : SoFar → List ℕ → Asked → Ruling
 asked_ground so line asked = first (asked_grounds so line asked)
 
 -- what was given, with a line that is not refused
@@ -72,7 +72,7 @@ unfoldable pub share_grounds : List Wanted → List ℕ → Asked → List Groun
 share_grounds ws line (A.Settling said) = only (too_late said)
 share_grounds ws line (A.Share s) = on BadIdentifier (not (well_formed (whose_of line))) ∷ on MisplacedShare (not (is_next ws s (whose_of line))) ∷ []
 
-abbrev pub share_ground : List Wanted → List ℕ → Asked → Refusal
+abbrev pub share_ground : List Wanted → List ℕ → Asked → Ruling
 share_ground ws line asked = first (share_grounds ws line asked)
 
 -- the shares that were said, with a line that is not refused
@@ -84,13 +84,13 @@ with_share shares (A.Share s) = shares ++ (s.kwh ∷ [])
 
 -- how it comes out: a refusal with the number of a line; or what was given, with a share for each K line
 pub data Outcome : Type 0 where
-  refused : ℕ → Refusal → Outcome
+  refused : ℕ → Ruling → Outcome
   judged : Given → List ℤ → Outcome
 
 -- the input ends: 22 where a share is missing
 abbrev pub unless_missing : List Wanted → ℕ → Outcome → Outcome
 unless_missing [] n done = done
-unless_missing (w ∷ ws) n done = refused n MisplacedShare
+unless_missing (w ∷ ws) n done = refused n (Err MisplacedShare)
 
 -- after E, the lines from number n on: what is still wanted, and the shares so far
 unfoldable pub share_lines : Given → List Wanted → List ℤ → ℕ → List (List ℕ) → Outcome
@@ -101,7 +101,7 @@ share_lines g ws shares n (line ∷ lines) =
 
 -- (E before the header is refused)
 abbrev pub after_end : SoFar → ℕ → List (List ℕ) → Outcome
-after_end nothing n lines = refused n NoEnd
+after_end nothing n lines = refused n (Err NoEnd)
 after_end (these g) n lines = share_lines g (wanted_in g) [] n lines
 
 -- E ends what is settled
@@ -117,7 +117,7 @@ unless_end (A.Share s) ended rest = rest
 
 -- up to E, the lines from number n on; 15 where they stop short
 unfoldable pub outcome : SoFar → ℕ → List (List ℕ) → Outcome
-outcome so n [] = refused n NoEnd
+outcome so n [] = refused n (Err NoEnd)
 outcome so n (line ∷ lines) =
     cond (accepted (asked_ground so line (asked_of line)))
     (unless_end (asked_of line) (after_end so (n + 1) lines) (outcome (after_asked so line (asked_of line)) (n + 1) lines))

@@ -3,3 +3,4 @@ pub mod Refusals
 pub mod Grounds
 pub mod Direction
 pub mod Sample
+pub mod Stage

@@ -2,7 +2,7 @@
 use crate::direction::Direction;
 
 // Award in kW, price in cent per MWh. Its identifier is handed over beside it.
-#[derive(Clone, Copy)]
+#[derive(Clone, Copy, Debug, PartialEq, Eq)]
 pub struct Contract {
     pub direction: Direction,
     pub award: i32,

@@ -2,7 +2,8 @@
 use arithmetic::date::Date;
 
 // The minimum lot in kW, or left blank: what that means is decided where the run is opened.
-#[derive(Clone, Copy)]
+// Stays an enum of its own: a blank lot means 5,000 kW, which `None` would not say.
+#[derive(Clone, Copy, Debug, PartialEq, Eq)]
 pub enum Lot {
     Blank,
     Kw(i32),

@@ -3,7 +3,7 @@ ghost use Rattle.std.specs.Prelude.{◌≡◌};
 ghost use Rattle.vocabulary.specs.Interval.{windows_of};
 
 // A setpoint comes every 1, 3 or 4 seconds.
-#[derive(Clone, Copy)]
+#[derive(Clone, Copy, Debug, PartialEq, Eq)]
 pub enum Interval {
     One,
     Three,
@@ -12,7 +12,7 @@ pub enum Interval {
 
 // The seconds of an interval and the samples of a quarter hour; the near window goes from 0 to `near` samples back, the spread window from
 // `from` to `to`.
-#[derive(Clone, Copy)]
+#[derive(Clone, Copy, Debug, PartialEq, Eq)]
 pub struct Windows {
     pub seconds: u16,
     pub samples: usize,

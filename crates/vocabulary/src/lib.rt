@@ -9,3 +9,4 @@ pub mod sample; // setpoint and actual
 pub mod recorded; // a sample of a recording, with its second
 pub mod acceptance; // OGA and UGA
 pub mod refusal; // why a call or a line is refused
+pub mod stage; // how far an input is

@@ -2,10 +2,8 @@
 ghost use Rattle.std.specs.Prelude.{◌≡◌};
 ghost use Rattle.vocabulary.specs.Refusals.{number_of};
 
-#[derive(Clone, Copy)]
+#[derive(Clone, Copy, Debug, PartialEq, Eq)]
 pub enum Refusal {
-    // nothing is refused
-    None,
     WrongMoment,
     BadInterval,
     BadLot,
@@ -31,11 +29,11 @@ pub enum Refusal {
 }
 
 impl Refusal {
+    // Written out: each number is that of the table, whatever the order of the names.
     pub fn number(self) -> u8
-        ensures { result ≡ number_of self }
+        ensures { result ≡ number_of (Err self) }
     {
         match self {
-            Refusal::None => 0,
             Refusal::WrongMoment => 1,
             Refusal::BadInterval => 2,
             Refusal::BadLot => 3,
@@ -59,5 +57,15 @@ impl Refusal {
             Refusal::SecondsOutOfOrder => 21,
             Refusal::MisplacedShare => 22,
         }
+    }
+}
+
+// The number of what is said of a call or a line: 0 where nothing is refused.
+pub fn number(ruling: Result<(), Refusal>) -> u8
+    ensures { result ≡ number_of ruling }
+{
+    match ruling {
+        Ok(()) => 0,
+        Err(refusal) => refusal.number(),
     }
 }

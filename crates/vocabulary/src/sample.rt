@@ -4,7 +4,7 @@ ghost use Rattle.vocabulary.specs.Sample.{power_in_range};
 
 use arithmetic::whole::within;
 
-#[derive(Clone, Copy)]
+#[derive(Clone, Copy, Debug, PartialEq, Eq)]
 pub struct Sample {
     pub setpoint: i32,
     pub actual: i32,

@@ -1,27 +1,16 @@
 -- `mendfeed::row_at` meets its contract: the sample that is read is what its line says, and the line makes its turn. Assumes nothing.
-use Rattle.mendfeed.proofs.RowLaws.{none_more, row-runs}
+use Rattle.std.proofs.Common.{sym, refl, arith}
 use Rattle.samples.proofs.RecordedMeaning.{recorded-enters}
-use Rattle.std.proofs.Common.{sym, refl, ◌∙◌, arith, length-take-le, rules}
-use borrow.Author.Tests.{not-false}
+use Rattle.mendfeed.proofs.RowLaws.{no-row, a-row, row-runs}
 use Rattle.mendfeed.proofs.row_at.Goals as goal
 
 pub returns-then-not-is_ready : goal.returns-then-not-is_ready
-returns-then-not-is_ready c = none_more c.requires.runnable (omega arith)
+returns-then-not-is_ready c = no-row
 
-pub slice_bounds-recorded_at-end : goal.slice_bounds-recorded_at-end
-slice_bounds-recorded_at-end c = sym (length-take-le _ _ c.requires.cut.within)
-
-pub returns-in_default : goal.returns-in_default
-returns-in_default c = none_more c.requires.runnable (omega arith)
+pub returns-in_err-line : goal.returns-in_err-line
+returns-in_err-line c = rw c.from_residual.ensures no-row
 
 pub returns : goal.returns
 returns c =
-    let at_row = c in
-    let at-wrapping-add-u64 = at_row in
-    let at-line = at-wrapping-add-u64 in
-    let at-recorded-at = at-line in
-    let at-if1 = at-recorded-at in
-    let at-is-ready = at-if1 in
-    let start = at-is-ready in
-    let line = recorded-enters start.requires.cut _ _ (omega (arith, start.requires.to_lt_end)) (sym at-recorded-at.recorded_at.ensures ∙ at-line.in-Of.is) in
-    row-runs start.requires.runnable (at-is-ready.is_ready.ensures (at-if1.if-not-is_ready.false)) line refl at-wrapping-add-u64.wrapping_add_u64.ensures.value at_row.row-answer.ensures
+    let line = recorded-enters c.requires.cut _ _ (omega (arith, c.requires.to_lt_end)) (sym c.in_ok-line.ensures) in
+    a-row refl (row-runs c.requires.runnable (c.is_ready.ensures c.if-not-is_ready.false) line refl refl c.row-told.ensures)

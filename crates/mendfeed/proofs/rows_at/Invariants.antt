@@ -1,6 +1,5 @@
-use Rattle.mendfeed.proofs.RowLaws.{none_more, runs_then, runs-length}
+use Rattle.std.proofs.Common.{◌-◌}
 use Rattle.mendfeed.specs.Steps.{Runs}
-use Rattle.std.proofs.Common.{ℕ, ◌-◌, arith}
 use Rattle.mendfeed.proofs.rows_at.Given as goal
 
 abbrev pub invariant-loop-so : goal.invariant-loop-so

@@ -6,8 +6,4 @@ use Rattle.print.proofs.put_date.Goals as goal
 
 pub returns : goal.returns
 unfolding date_text
-returns c =
-    let at-put-part = c in
-    let at-put-four = at-put-part in
-    join (join at-put-four.put_four-month.ensures
-    at-put-part.put_part-day.ensures) c.put_part.ensures
+returns c = join (join c.put_four-month.ensures c.put_part-day.ensures) c.put_part.ensures

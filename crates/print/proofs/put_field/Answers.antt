@@ -6,8 +6,7 @@ use Rattle.print.proofs.Writing.{join}
 use Rattle.print.proofs.put_field.Goals as goal
 
 pub returns : goal.returns
-returns c =
-    let tab = c in record {
-      wrote = join tab.put_tab-field.ensures c.put_count.ensures;
-      short = digits-length 19 tab.args.n (omega arith);
-    }
+returns c = record {
+  wrote = join c.put_tab-field.ensures c.put_count.ensures;
+  short = digits-length 19 c.args.n (omega arith);
+}

@@ -11,9 +11,7 @@ use Rattle.print.proofs.put_money.Goals as goal
 
 pub returns : goal.returns
 returns c =
-    let tab = c in
-    let a = tab.args in
-    let f : SFits w64 a.money.0 = search rules in record {
-      wrote = join tab.put_tab-field.ensures (rw (to_z-of_z f) at c.put_number.ensures);
-      short = text-length a.money.0 (omega arith);
+    let f : SFits w64 c.args.money.0 = search rules in record {
+      wrote = join c.put_tab-field.ensures (rw (to_z-of_z f) at c.put_number.ensures);
+      short = text-length c.args.money.0 (omega arith);
     }

@@ -5,24 +5,15 @@ use Rattle.print.proofs.Writing.{join}
 use Rattle.print.proofs.put_short.Goals as goal
 
 pub returns-then-n-lt10 : goal.returns-then-n-lt10
-returns-then-n-lt10 c =
-    let at-if = c in
-    rw (digits-one at-if.args.n at-if.if-n-lt10.true) c.put.ensures
+returns-then-n-lt10 c = rw (digits-one c.args.n c.if-n-lt10.true) c.put.ensures
 
 pub returns-then-n-lt100 : goal.returns-then-n-lt100
-returns-then-n-lt100 c =
-    let at-if = c in
-    rw (digits-two at-if.args.n at-if.if-n-lt10.false at-if.if-n-lt100.true) c.put_two.ensures
+returns-then-n-lt100 c = rw (digits-two c.args.n c.if-n-lt10.false c.if-n-lt100.true) c.put_two.ensures
 
 pub returns-then-n-lt1000 : goal.returns-then-n-lt1000
 returns-then-n-lt1000 c =
-    let at-put = c in
-    let at-if = at-put in
-    rw (digits-three at-if.args.n at-if.if-n-lt100.false at-if.if-n-lt1000.true)
-    (join at-put.put-tens.ensures c.put_two-then-n-lt1000.ensures)
+    rw (digits-three c.args.n c.if-n-lt100.false c.if-n-lt1000.true)
+    (join c.put-tens.ensures c.put_two-then-n-lt1000.ensures)
 
-pub returns : goal.returns
-returns c =
-    let at-if = c in
-    let at-start = at-if in
-    rw (digits-four at-start.args.n at-if.if-n-lt1000.false at-start.requires) c.put_four.ensures
+pub returns-else-n-lt1000 : goal.returns-else-n-lt1000
+returns-else-n-lt1000 c = rw (digits-four c.args.n c.if-n-lt1000.false c.requires) c.put_four.ensures

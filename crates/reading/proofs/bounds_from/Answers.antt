@@ -1,25 +1,36 @@
 -- `reading::bounds_from` meets its contract: each field is that of the line. Assumes nothing.
-use Rattle.reading.proofs.CountLaws.{other-count, its-count}
+use Rattle.std.proofs.Common.{rules, eq-eqb, ne_eqb}
 use Rattle.reading.specs.Line.{bounds_of}
-use native.Mathlib.Omega.{arith}
-use Rattle.std.proofs.Common.{rules}
 use Rattle.reading.proofs.bounds_from.Goals as goal
 
-pub returns-then-split-ne3 : goal.returns-then-split-ne3
+pub returns-then-count-ne3 : goal.returns-then-count-ne3
 unfolding bounds_of
-returns-then-split-ne3 c = other-count _ c.requires _ _ c.if-split-ne3.true
+returns-then-count-ne3 c = rw (← c.count.ensures, ne_eqb _ _ c.if-count-ne3.true)
+
+pub returns-in_default : goal.returns-in_default
+unfolding bounds_of
+returns-in_default c = rw (← c.count.ensures, eq-eqb _ _ c.if-count-ne3.false, ← c.field.ensures, ← c.in_default.ensures)
+
+pub returns-in_default-long_number_of : goal.returns-in_default-long_number_of
+unfolding bounds_of
+returns-in_default-long_number_of c =
+    rw (
+      ← c.count.ensures,
+      eq-eqb _ _ c.if-count-ne3.false,
+      ← c.field.ensures,
+      ← c.in-Some.ensures,
+      ← c.field-2.ensures,
+      ← c.in_default-long_number_of.ensures,
+    )
 
 pub returns : goal.returns
 unfolding bounds_of
 returns c =
-    let at-uga = c in
-    let at-oga = at-uga in
-    let at_count = at-oga in
-    let same = at_count.requires in
     rw (
-      its-count _ same _ _ at_count.if-split-ne3.false,
-      ← at-oga.field.ensures.its_own same (omega arith),
-      ← at-uga.long_number_of-oga.ensures,
-      ← at-uga.field-2.ensures.its_own same (omega arith),
-      ← c.long_number_of-uga.ensures,
-    ) c.bounds_of.ensures
+      ← c.count.ensures,
+      eq-eqb _ _ c.if-count-ne3.false,
+      ← c.field.ensures,
+      ← c.in-Some.ensures,
+      ← c.field-2.ensures,
+      ← c.in-Some-long_number_of.ensures,
+    ) (search rules)

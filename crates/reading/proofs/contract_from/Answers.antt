@@ -1,25 +1,47 @@
 -- `reading::contract_from` meets its contract: each field is that of the line. Assumes nothing.
-use Rattle.reading.proofs.CountLaws.{other-count, its-count}
+use Rattle.std.proofs.Common.{rules, eq-eqb, ne_eqb}
 use Rattle.reading.specs.Line.{contract_of}
-use native.Mathlib.Omega.{arith}
-use Rattle.std.proofs.Common.{rules}
 use Rattle.reading.proofs.contract_from.Goals as goal
 
-pub returns-then-split-ne5 : goal.returns-then-split-ne5
+pub returns-then-count-ne5 : goal.returns-then-count-ne5
 unfolding contract_of
-returns-then-split-ne5 c = other-count _ c.requires _ _ c.if-split-ne5.true
+returns-then-count-ne5 c = rw (← c.count.ensures, ne_eqb _ _ c.if-count-ne5.true)
+
+pub returns-in_default : goal.returns-in_default
+unfolding contract_of
+returns-in_default c = rw (← c.count.ensures, eq-eqb _ _ c.if-count-ne5.false, ← c.field.ensures, ← c.in_default.ensures)
+
+pub returns-in_default-number : goal.returns-in_default-number
+unfolding contract_of
+returns-in_default-number c =
+    rw (
+      ← c.count.ensures,
+      eq-eqb _ _ c.if-count-ne5.false,
+      ← c.field.ensures,
+      ← c.in-Some.ensures,
+      ← c.in_default-number.ensures,
+    )
+
+pub returns-in_default-number-2 : goal.returns-in_default-number-2
+unfolding contract_of
+returns-in_default-number-2 c =
+    rw (
+      ← c.count.ensures,
+      eq-eqb _ _ c.if-count-ne5.false,
+      ← c.field.ensures,
+      ← c.in-Some.ensures,
+      ← c.in-Some-number.ensures,
+      ← c.in_default-number-2.ensures,
+    )
 
 pub returns : goal.returns
 unfolding contract_of
 returns c =
-    let at-award = c in
-    let at_field = at-award in
-    let at_count = at_field in
-    let same = at_count.requires in
     rw (
-      its-count _ same _ _ at_count.if-split-ne5.false,
-      ← at_field.field.ensures.its_own same (omega arith),
-      ← at-award.direction_of-direction.ensures,
-      ← at-award.number_at-award.ensures,
-      ← c.number_at-price.ensures,
-    ) c.contract_of.ensures
+      ← c.count.ensures,
+      eq-eqb _ _ c.if-count-ne5.false,
+      ← c.field.ensures,
+      ← c.in-Some.ensures,
+      ← c.in-Some-number.ensures,
+      ← c.in-Some-number-2.ensures,
+    ) (search rules)

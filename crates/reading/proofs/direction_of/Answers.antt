@@ -1,16 +1,30 @@
--- `reading::direction_of` meets its contract. Assumes nothing.
-use Rattle.reading.specs.Line.{direction_of}
-use Rattle.std.proofs.Common.{rules}
+-- `reading::direction_of` meets its contract: one byte is a letter or another, and no other field is one. Assumes nothing.
+use Rattle.std.proofs.Common.{◌≡◌, length, get_or, arith, eq-eqb, ne_eqb}
+use Rattle.reading.specs.Line.{is_letter, direction_of}
 use Rattle.reading.proofs.direction_of.Goals as goal
 
-pub returns-then-is_letter : goal.returns-then-is_letter
-unfolding direction_of
-returns-then-is_letter c = rw (← c.is_letter.ensures, c.if-is_letter.true)
+pub returns-in-P : goal.returns-in-P
+unfolding direction_of is_letter
+returns-in-P c = let one : length c.args.field.now ≡ 1 = omega arith in let byte : get_or c.args.field.now 0 0 ≡ 80 = omega arith in rw (eq-eqb _ _ one, byte)
 
-pub returns-then-is_letter-2 : goal.returns-then-is_letter-2
-unfolding direction_of
-returns-then-is_letter-2 c = rw (← c.is_letter.ensures, c.if-is_letter.false, ← c.is_letter-2.ensures, c.if-is_letter-2.true)
+pub returns-in-N : goal.returns-in-N
+unfolding direction_of is_letter
+returns-in-N c = let one : length c.args.field.now ≡ 1 = omega arith in let byte : get_or c.args.field.now 0 0 ≡ 78 = omega arith in rw (eq-eqb _ _ one, byte)
 
-pub returns : goal.returns
-unfolding direction_of
-returns c = rw (← c.is_letter.ensures, c.if-is_letter.false, ← c.is_letter-2.ensures, c.if-is_letter-2.false)
+pub returns-in_default : goal.returns-in_default
+unfolding direction_of is_letter
+returns-in_default c = rw (ne_eqb (length c.args.field.now) 1 (λ e. omega arith))
+
+pub returns-in_default-2 : goal.returns-in_default-2
+unfolding direction_of is_letter
+returns-in_default-2 c =
+    let one : length c.args.field.now ≡ 1 = omega arith in
+    rw (
+      eq-eqb _ _ one,
+      ne_eqb (get_or c.args.field.now 0 0) 80 (λ e. omega arith),
+      ne_eqb (get_or c.args.field.now 0 0) 78 (λ e. omega arith),
+    )
+
+pub returns-in_default-3 : goal.returns-in_default-3
+unfolding direction_of is_letter
+returns-in_default-3 c = rw (ne_eqb (length c.args.field.now) 1 (λ e. omega arith))

@@ -1,10 +1,6 @@
-use Rattle.std.proofs.Common.{◌≡◌, ◌≤◌, [], length, drop, arith}
+use Rattle.std.proofs.Common.{◌≡◌, [], drop}
 use Rattle.lines.specs.Lines.{lines_of}
-use Rattle.samples.proofs.CutLaws.{whole, byte-before}
 use Rattle.samples.proofs.complete.Given as goal
 
-abbrev pub invariant-loop-end : goal.invariant-loop-end
-invariant-loop-end l = (l.end ≤ length l.block) × (lines_of (drop l.end l.block) ≡ [])
-
-abbrev pub decreases-loop-end : goal.decreases-loop-end
-decreases-loop-end l = l.end
+abbrev pub invariant-loop-place : goal.invariant-loop-place
+invariant-loop-place l = lines_of (drop l.place l.block) ≡ []

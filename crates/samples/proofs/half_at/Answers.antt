@@ -1,5 +1,5 @@
 -- `samples::half_at` meets its contract: four bytes, each below 256, make a number below 2 ^ 32. Assumes nothing.
-use Rattle.std.proofs.Common.{◌+◌, sym, arith, rules}
+use Rattle.std.proofs.Common.{sym}
 use Rattle.samples.proofs.WordLaws.{four}
 use Rattle.samples.proofs.half_at.Goals as goal
 

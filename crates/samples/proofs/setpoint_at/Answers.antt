@@ -4,12 +4,6 @@ use Rattle.std.proofs.Common.{arith}
 use Rattle.samples.proofs.FieldScan.{field-within, the_field}
 use Rattle.samples.proofs.setpoint_at.Goals as goal
 
-pub same_setpoint-requires : goal.same_setpoint-requires
-same_setpoint-requires c = let together = c.requires in record {
-  ended = together.ended;
-  kept = together.kept;
-}
-
 pub overflow_sub-result : goal.overflow_sub-result
 overflow_sub-result c = c.same_setpoint.ensures.wide c.if-same_setpoint.true
 
@@ -18,15 +12,5 @@ overflow_add-result c = omega (arith, field-within (c.same_setpoint.ensures.fiel
 
 pub returns-then-same_setpoint : goal.returns-then-same_setpoint
 returns-then-same_setpoint c =
-    let at-if = c in
-    let f = at-if.same_setpoint.ensures.field at-if.if-same_setpoint.true in
+    let f = c.same_setpoint.ensures.field c.if-same_setpoint.true in
     rw (range_back _ f.ranged) (the_field (omega arith) f)
-
-pub field_at-requires : goal.field_at-requires
-field_at-requires c = record {
-  ended = c.requires.ended;
-  end_bound = omega arith;
-}
-
-pub returns : goal.returns
-returns c = c.field_at.ensures

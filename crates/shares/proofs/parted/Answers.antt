@@ -6,7 +6,6 @@ use Rattle.series.proofs.Scanned.{each-length}
 use lib.ListN.{length}
 use native.Mathlib.Omega.{arith}
 use mathlib.Core.Path.{◌≡◌}
-use Rattle.std.proofs.Common.{rules}
 use Rattle.shares.proofs.parted.Goals as goal
 
 pub topped_up-requires : goal.topped_up-requires

@@ -1,7 +1,6 @@
 -- `bounds::bound::next_bounds` meets its contract: bounds that are brought out to where they can be moved are followed by the same ones.
 -- Assumes nothing.
-use borrow.Author.Rules.{rules, sfits_of}
-use native.Mathlib.Omega.{arith}
+use borrow.Author.Rules.{rules}
 use mathlib.Core.Path.{◌∙◌}
 use mir.Syntax.{w32}
 use mir.Val.{SFits}
@@ -13,8 +12,7 @@ next_movable-requires c = rw c.movable.ensures (brought-out-movable c.args.held)
 
 pub returns : goal.returns
 returns c =
-    let start = c in
-    let a = start.args in
-    let high : SFits w32 a.seen.highest = sfits_of (omega (arith, start.well_formed)) in
-    let low : SFits w32 a.seen.lowest = sfits_of (omega (arith, start.well_formed)) in
+    let a = c.args in
+    let high : SFits w32 a.seen.highest = search rules in
+    let low : SFits w32 a.seen.lowest = search rules in
     rw c.movable.ensures at c.next_movable.ensures.0 ∙ brought-out-next a.interval a.lot a.seen a.held high low

@@ -1,25 +1,19 @@
 -- `bounds::side::outer` meets its contract: the farther out of two numbers of 32 bits is one of them.
 -- Assumes nothing.
-use Rattle.std.proofs.Common.{rules}
 use mathlib.Core.Path.{◌≡◌, ◌∙◌}
 use mir.Syntax.{w32}
 use mir.Val.{SFits}
 use mir.ValLaws.{to_z-of_z}
 use Rattle.arithmetic.proofs.Signed.{back}
 use Rattle.bounds.specs.Side.{farther_of}
-use Rattle.bounds.proofs.Scan.{widened, wide_fits}
 use Rattle.bounds.proofs.Sides.{farther-ind}
 use Rattle.bounds.proofs.side.outer.Goals.{After-farther}
 use Rattle.bounds.proofs.side.outer.Goals as goal
 
-pub overflow_cast-a : goal.overflow_cast-a
-overflow_cast-a c = wide_fits c.ranges.a
-
-pub overflow_cast-b : goal.overflow_cast-b
-overflow_cast-b c = wide_fits c.ranges.b
-
 found : (c : After-farther) → c.farther.result ≡ farther_of c.args.side c.args.a c.args.b
-found c = c.farther.ensures ∙ rw (widened c.ranges.a, widened c.ranges.b)
+found c =
+    c.farther.ensures
+    ∙ rw (back {z = c.from.result} c.from.type_inv, back {z = c.from-2.result} c.from-2.type_inv, c.from.ensures, c.from-2.ensures, to_z-of_z w32 c.args.a c.ranges.a, to_z-of_z w32 c.args.b c.ranges.b)
 
 fit : (c : After-farther) → SFits w32 c.farther.result
 fit c = rw (found c) (farther-ind (SFits w32) c.args.side c.args.a c.args.b c.ranges.a c.ranges.b)

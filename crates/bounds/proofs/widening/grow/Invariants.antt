@@ -1,12 +1,9 @@
-use Prim.Native.Nat.{◌+◌, ◌-◌, ◌≤◌, ◌<◌}
+use Prim.Native.Nat.{◌-◌, ◌≤◌, ◌<◌}
 use mathlib.Core.Path.{◌≡◌}
 use mathlib.Core.List.{List}
-use native.Mathlib.Omega.{arith}
-use Rattle.std.proofs.Common.{rules}
 use lib.IntN.{ℤ}
 use lib.ListN.{length}
 use Rattle.bounds.specs.Widening.{Reaching}
-use Rattle.bounds.proofs.WindowLaws.{widens}
 use Rattle.bounds.proofs.widening.grow.Given as goal
 
 abbrev pub invariant-loop-m : goal.invariant-loop-m

@@ -1,5 +1,4 @@
 use Prim.Native.Nat.{◌-◌, ◌≤◌, ◌<◌}
-use native.Mathlib.Omega.{arith}
 use Rattle.bounds.proofs.widening.odd_passes.Given as goal
 
 abbrev pub invariant-loop-m : goal.invariant-loop-m

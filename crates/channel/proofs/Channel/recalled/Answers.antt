@@ -1,6 +1,5 @@
 -- `channel::Channel::recalled` meets its contract.
 -- Assumes nothing.
-use Rattle.std.proofs.Common.{rules}
 use mathlib.Core.Path.{◌≡◌}
 use mir.Syntax.{w32}
 use mir.ValLaws.{to_z-of_z}
@@ -11,13 +10,11 @@ use Rattle.channel.proofs.Channel.recalled.Goals as goal
 
 stepped : (c : After-stored) → c.stored.result ≡ recalled_of c.args.self c.args.setpoint
 unfolding recalled_of
-stepped c =
-    let a = c in
-    rw (c.stored.ensures, c.primed-ready.ensures, to_z-of_z w32 a.args.setpoint a.ranges.setpoint)
+stepped c = rw (c.stored.ensures, c.primed-ready.ensures, to_z-of_z w32 c.args.setpoint c.ranges.setpoint)
 
 pub returns : goal.returns
 returns c =
-    let a = c.args in record {
-      step = stepped (goal.at.returns c).After-stored;
-      series = λ i lot start r. rw (stepped (goal.at.returns c).After-stored) (recalls a.self a.setpoint start r);
+    let e = stepped (goal.at.returns c).After-stored in record {
+      step = e;
+      series = λ i lot start r. rw e (recalls c.args.self c.args.setpoint start r);
     }

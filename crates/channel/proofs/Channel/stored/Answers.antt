@@ -1,6 +1,5 @@
 -- `channel::Channel::stored` meets its contract.
 -- Assumes nothing.
-use Rattle.std.proofs.Common.{rules}
 use mir.Syntax.{w32}
 use mir.ValLaws.{to_z-of_z}
 use Rattle.channel.specs.State.{stored_of, after}

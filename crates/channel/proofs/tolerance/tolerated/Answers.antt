@@ -1,81 +1,78 @@
 -- `channel::tolerance::tolerated` meets its contract: an arm for each side.
 -- Assumes nothing.
-use Rattle.std.proofs.Common.{rules}
-use mathlib.Core.Path.{◌≡◌, refl, ◌∙◌}
+use Rattle.std.proofs.Common.{arith, rules}
+use Rattle.std.proofs.lemmas.Int.{ints, clamps}
+use Rattle.std.specs.Int.{int_max, int_min}
+use mathlib.Core.Path.{◌≡◌, refl}
 use mathlib.Core.Bool.{Bool, true, false, cond}
-use lib.IntN.{ℤ, pos}
+use lib.IntN.{ℤ, pos, ◌*ℤ◌}
 use lib.Signed.{le_z}
-use mir.Syntax.{w32}
+use mir.Syntax.{w32, w64}
+use mir.Val.{SFits}
 use mir.ValLaws.{to_z-of_z}
 use Rattle.arithmetic.specs.Whole.{max_z, min_z}
 use Rattle.arithmetic.proofs.Signed.{back}
 use Rattle.channel.specs.Tolerance.{five_percent_more, five_percent_less, ogt_of, ugt_of}
-use Rattle.channel.proofs.tolerance.tolerated.Goals.{After-scaled-less}
 use Rattle.channel.proofs.tolerance.tolerated.Goals as goal
+
+-- std's words are those of the definitions
+max-is : (a b : ℤ) → int_max a b ≡ max_z a b
+unfolding max_z
+max-is a b = omega (arith, ints, clamps)
+
+min-is : (a b : ℤ) → int_min a b ≡ min_z a b
+unfolding min_z
+min-is a b = refl
 
 -- choosing first, or last, is the same
 chosen : (op : ℤ → ℤ → ℤ) (t : Bool) (a b x : ℤ) → op (cond t a b) x ≡ cond t (op a x) (op b x)
 chosen op true a b x = refl
 chosen op false a b x = refl
 
--- 21/20 and 19/20 of the setpoint
-more : (c : After-scaled-less) → c.scaled-more.result.0 ≡ five_percent_more c.args.setpoint
-unfolding five_percent_more
-more c =
-    c.scaled-more.ensures ∙ rw (to_z-of_z w32 c.args.setpoint c.ranges.setpoint)
-
-less : (c : After-scaled-less) → c.scaled-less.result.0 ≡ five_percent_less c.args.setpoint
-unfolding five_percent_less
-less c = c.scaled-less.ensures ∙ rw (to_z-of_z w32 c.args.setpoint c.ranges.setpoint)
-
 pub returns-in-Upper : goal.returns-in-Upper
-unfolding ogt_of
+unfolding ogt_of five_percent_more five_percent_less
 returns-in-Upper c =
-    let at-struct-told3 = c in
-    let at-struct-told2 = at-struct-told3 in
-    let at-enum-told = at-struct-told2 in
-    let at_place = at-enum-told in
-    let d = at_place in
-    let a = d.args in
-    let by = c.by_sign in
+    let kw = c.args.setpoint in
+    let bound = c.args.bound.0 in
+    let b : SFits w64 bound = search rules in
+    let m : SFits w64 c.scaled-more.result.0 = search rules in
+    let l : SFits w64 c.scaled-less.result.0 = search rules in
     rw (
-      at-enum-told.in-Upper.is,
-      back c.larger.type_inv,
-      c.larger.ensures,
-      back {z = by.result}
-          by.type_inv,
-      by.ensures,
-      back {z = a.bound.0} c.struct_told-in-Upper-3-1.given.0.1,
-      back {z = d.scaled-more.result.0}
-          at-struct-told2.struct_told-in-Upper-1.given.0.1,
-      back {z = d.scaled-less.result.0} at-struct-told3.struct_told-in-Upper-2-1.given.0.1,
-      more (goal.at.returns-in-Upper c).After-scaled-less,
-      less (goal.at.returns-in-Upper c).After-scaled-less,
+      c.in-Upper.is,
+      back c.max.type_inv,
+      c.max.ensures.value,
+      max-is,
+      back {z = c.by_sign.result} c.by_sign.type_inv,
+      c.by_sign.ensures,
+      to_z-of_z w64 bound b,
+      to_z-of_z w64 _ m,
+      to_z-of_z w64 _ l,
+      c.scaled-more.ensures,
+      c.scaled-less.ensures,
+      to_z-of_z w32 kw c.ranges.setpoint,
     )
-    (chosen max_z (le_z (pos 0) a.bound.0) (five_percent_more a.setpoint) (five_percent_less a.setpoint) a.bound.0)
+    (chosen max_z (le_z (pos 0) bound) (kw *ℤ pos 5670) (kw *ℤ pos 5130) bound)
 
 pub returns-in-Lower : goal.returns-in-Lower
-unfolding ugt_of
+unfolding ugt_of five_percent_more five_percent_less
 returns-in-Lower c =
-    let at-struct-told7 = c in
-    let at-struct-told6 = at-struct-told7 in
-    let at-enum-told2 = at-struct-told6 in
-    let at_place = at-enum-told2 in
-    let d = at_place in
-    let a = d.args in
-    let by = c.by_sign-in-Lower in
+    let kw = c.args.setpoint in
+    let bound = c.args.bound.0 in
+    let b : SFits w64 bound = search rules in
+    let m : SFits w64 c.scaled-more.result.0 = search rules in
+    let l : SFits w64 c.scaled-less.result.0 = search rules in
     rw (
-      at-enum-told2.in-Lower.is,
-      back c.smaller.type_inv,
-      c.smaller.ensures,
-      back {z = by.result}
-          by.type_inv,
-      by.ensures,
-      back {z = a.bound.0} c.struct_told-in-Lower-4-1.given.0.1,
-      back {z = d.scaled-more.result.0}
-          at-struct-told7.struct_told-in-Lower-3-1.given.0.1,
-      back {z = d.scaled-less.result.0} at-struct-told6.struct_told-in-Lower-2-1.given.0.1,
-      more (goal.at.returns-in-Lower c).After-scaled-less,
-      less (goal.at.returns-in-Lower c).After-scaled-less,
+      c.in-Lower.is,
+      back c.min.type_inv,
+      c.min.ensures.value,
+      min-is,
+      back {z = c.by_sign-in-Lower.result} c.by_sign-in-Lower.type_inv,
+      c.by_sign-in-Lower.ensures,
+      to_z-of_z w64 bound b,
+      to_z-of_z w64 _ m,
+      to_z-of_z w64 _ l,
+      c.scaled-more.ensures,
+      c.scaled-less.ensures,
+      to_z-of_z w32 kw c.ranges.setpoint,
     )
-    (chosen min_z (le_z (pos 0) a.bound.0) (five_percent_less a.setpoint) (five_percent_more a.setpoint) a.bound.0)
+    (chosen min_z (le_z (pos 0) bound) (kw *ℤ pos 5130) (kw *ℤ pos 5670) bound)

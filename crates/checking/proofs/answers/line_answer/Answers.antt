@@ -21,7 +21,7 @@ pub returns-in-Sample : goal.returns-in-Sample
 returns-in-Sample c = rw c.in-Sample.is c.sample.ensures
 
 pub returns-in-End : goal.returns-in-End
-returns-in-End c = rw (c.in-End.is, ← c.end_refusal.ensures) c.answered-in-End.ensures
+returns-in-End c = rw (c.in-End.is, ← c.end.ensures) c.answered-in-End.ensures
 
 pub returns-in-Malformed : goal.returns-in-Malformed
 returns-in-Malformed c = rw c.in-Malformed.is c.answered-in-Malformed.ensures

@@ -3,7 +3,7 @@ use Rattle.std.proofs.Common.{rules}
 use Rattle.checking.proofs.answers.opens.Goals as goal
 
 pub returns-in-Settling : goal.returns-in-Settling
-returns-in-Settling c = rw (← c.read_asked-asked.ensures, c.in-Settling.is) c.opening_line.ensures
+returns-in-Settling c = rw (← c.in-Settling.ensures) c.opening_line.ensures
 
 pub returns-in-Share : goal.returns-in-Share
-returns-in-Share c = rw (← c.read_asked-asked.ensures, c.in-Share.is)
+returns-in-Share c = rw (← c.in-Share.ensures)

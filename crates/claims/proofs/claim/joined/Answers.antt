@@ -1,16 +1,13 @@
 -- `claims::claim::joined` meets its contract. The loop stores the claims of the contracts so far.
 -- Assumes nothing.
-use Rattle.std.proofs.Common.{◌-◌, ◌<◌, take, arith}
+use Rattle.std.proofs.Common.{arith}
 use Rattle.arithmetic.specs.Energy.{kwh}
 use Rattle.claims.specs.Views.{claim_at}
 use Rattle.claims.specs.Powers.{next}
 use Rattle.claims.specs.Blank.{no_claims}
 use Rattle.claims.proofs.Blanks.{claims-32}
-use Rattle.series.proofs.Scanned.{Scanned, scanned-none, first_more, first-all}
+use Rattle.series.proofs.Scanned.{first_more, first-all}
 use Rattle.claims.proofs.claim.joined.Goals as goal
-
-pub loop-k-init : goal.loop-k-init
-loop-k-init c = let a = c.args in rw c.no_claims-out.ensures (scanned-none next (claim_at a.actuals a.acceptances a.floors a.shortfalls) 0 (take a.count a.setpoints) no_claims)
 
 pub loop-k-preserved : goal.loop-k-preserved
 unfolding claim_at

@@ -1,14 +1,9 @@
-use Rattle.std.proofs.Common.{◌-◌, ◌<◌, take, arith}
-use Rattle.arithmetic.specs.Energy.{kwh}
+use Rattle.std.proofs.Common.{take}
 use Rattle.claims.specs.Views.{claim_at}
 use Rattle.claims.specs.Powers.{next}
 use Rattle.claims.specs.Blank.{no_claims}
-use Rattle.claims.proofs.Blanks.{claims-32}
-use Rattle.series.proofs.Scanned.{Scanned, scanned-none, first_more, first-all}
+use Rattle.series.proofs.Scanned.{Scanned}
 use Rattle.claims.proofs.claim.joined.Given as goal
 
 abbrev pub invariant-loop-k : goal.invariant-loop-k
 invariant-loop-k l = Scanned next (claim_at l.actuals l.acceptances l.floors l.shortfalls) 0 (take l.count l.setpoints) no_claims l.k l.out l.k
-
-abbrev pub decreases-loop-k : goal.decreases-loop-k
-decreases-loop-k l = l.count - l.k

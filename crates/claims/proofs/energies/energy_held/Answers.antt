@@ -1,6 +1,6 @@
 -- `claims::energies::energy_held` meets its contract. No sum has no energy.
 -- Assumes nothing.
-use Rattle.std.proofs.Common.{◌≡◌, ℕ, mul-zero, rules}
+use Rattle.std.proofs.Common.{◌≡◌, ℕ, mul-zero}
 use Rattle.arithmetic.specs.Whole.{least_of}
 use Rattle.arithmetic.specs.Energy.{kwh, kwh_of, energy_of}
 use Rattle.claims.specs.Views.{energy_held}

@@ -1,11 +1,7 @@
-use Rattle.std.proofs.Common.{◌-◌, arith}
-use Rattle.series.proofs.Scanned.{Scanned, scanned-none, scanned-more, scanned-whole}
+use Rattle.series.proofs.Scanned.{Scanned}
 use Rattle.claims.specs.Powers.{next}
 use Rattle.claims.specs.Views.{less_at}
 use Rattle.claims.proofs.energies.excesses.Given as goal
 
 abbrev pub invariant-loop-k : goal.invariant-loop-k
 invariant-loop-k l = Scanned next (less_at l.others) 0 l.sums l.sums l.k l.out l.k
-
-abbrev pub decreases-loop-k : goal.decreases-loop-k
-decreases-loop-k l = 32 - l.k

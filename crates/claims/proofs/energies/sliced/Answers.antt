@@ -2,7 +2,7 @@
 -- Assumes nothing.
 use Rattle.series.proofs.Sums.{sum-at}
 use Rattle.series.specs.Sums.{sum_of}
-use Rattle.std.proofs.Common.{mul-le-mul_left, mul-add, arith, rules}
+use Rattle.std.proofs.Common.{mul-le-mul_left, mul-add, arith}
 use Rattle.claims.proofs.energies.sliced.Goals as goal
 
 pub energies-requires : goal.energies-requires

@@ -1,41 +1,29 @@
--- `claims::energies::total` meets its contract. What is summed and what is still to come are the whole, which fits.
+-- `claims::energies::total` meets its contract.
 -- Assumes nothing.
-use Rattle.std.proofs.Common.{◌≡◌, ◌+◌, ◌-◌, ◌≤◌, length, drop, arith}
-use Rattle.series.specs.Sums.{sum_of}
-use Rattle.series.proofs.Sums.{over-drop, over_none}
+use Rattle.std.proofs.Common.{arith, ◌≡◌, ◌+◌, ℕ, List, [], ◌∷◌, sum, ◌∙◌, zero-add}
+use Rattle.std.proofs.lemmas.Iterator.{YieldsList-from_slice}
+use Rattle.std.proofs.lemmas.Iterator.Consumers.{sum_from_yields_List, fits_from_yields_list}
+use Rattle.std.specs.List.{fold}
+use Rattle.series.specs.Sums.{over_of, sum_of}
 use Rattle.claims.proofs.energies.total.Goals as goal
 
-pub loop-k-init : goal.loop-k-init
-loop-k-init c = (omega arith, omega arith)
+summed-from : (n : ℕ) (l : List ℕ) → fold (λ s v. s + v) n l ≡ n + sum_of l
+unfolding over_of
+summed-from n [] = omega arith
+summed-from n (v ∷ l) = omega (arith, summed-from (n + v) l)
 
-pub offset_bounds-sums-k : goal.offset_bounds-sums-k
-offset_bounds-sums-k c = omega arith
+sum-is : (l : List ℕ) → sum l ≡ sum_of l
+sum-is l = summed-from 0 l ∙ zero-add (sum_of l)
 
-pub bounds-sums-k : goal.bounds-sums-k
-bounds-sums-k c = omega arith
-
-pub overflow_add-sum : goal.overflow_add-sum
-overflow_add-sum c =
-    let s = c in
-    let l = c.loop-k in
-    omega (arith, over-drop (λ v. v) s.args.sums l.k (omega (arith, s.well_formed, c.loop-k-test.true)), l.invariant, s.requires)
-
-pub overflow_add-k : goal.overflow_add-k
-overflow_add-k c = omega arith
-
-pub loop-k-smaller : goal.loop-k-smaller
-loop-k-smaller c = omega arith
-
-pub loop-k-preserved : goal.loop-k-preserved
-loop-k-preserved c =
-    let s = c in
-    let l = c.loop-k in
-    (omega arith, omega (arith, over-drop (λ v. v) s.args.sums l.k (omega (arith, s.well_formed, c.loop-k-test.true)), l.invariant))
+pub sum-requires-clause-fits : goal.sum-requires-clause-fits
+sum-requires-clause-fits c = fits_from_yields_list c.iter.result _ (YieldsList-from_slice c.args.sums cc) (omega (arith, sum-is c.args.sums, c.requires))
 
 pub returns : goal.returns
 returns c =
-    let s = c in
-    let l = c.loop-k in
-    let e : l.k ≡ length s.args.sums = omega (arith, s.well_formed, c.loop-k-test.false, l.invariant) in
-    let none = over_none (λ v. v) s.args.sums in
-    omega (arith, rw e at l.invariant.1, none)
+    let all : c.sum.result ≡ sum c.args.sums = sum_from_yields_List c.iter.result _ c.sum.ensures.ran (YieldsList-from_slice c.args.sums cc) in
+    omega (arith, all, sum-is c.args.sums)
+
+pub overflow_add-result : goal.overflow_add-result
+overflow_add-result c =
+    let all : c.sum.result ≡ sum c.args.sums = sum_from_yields_List c.iter.result _ c.sum.ensures.ran (YieldsList-from_slice c.args.sums cc) in
+    omega (arith, all, sum-is c.args.sums, c.requires)

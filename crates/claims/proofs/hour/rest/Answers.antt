@@ -1,7 +1,6 @@
 -- `claims::hour::rest` meets its contract.
 -- Assumes nothing.
 use Rattle.claims.specs.Views.{energy_held, rest_by}
-use Rattle.std.proofs.Common.{rules}
 use Rattle.claims.proofs.hour.rest.Goals as goal
 
 pub returns : goal.returns

@@ -1,6 +1,5 @@
 -- `contracts::book::contract` meets its contract.
 -- Assumes nothing.
-use Rattle.std.proofs.Common.{rules}
 use mathlib.Core.Path.{ap, ◌∙◌}
 use mir.Facts.{to_z-of_z}
 use Rattle.arithmetic.specs.Whole.{up}

@@ -1,41 +1,27 @@
--- `contracts::identifier::padded` meets its contract. The invariant: the bytes passed are copied, and zeros stand after them.
+-- `contracts::identifier::padded` meets its contract.
 -- Assumes nothing.
-use Rattle.std.proofs.Common.{rules}
-use Prim.Native.Nat.{ℕ, ◌-◌, ◌≤◌}
-use mathlib.Core.Path.{◌≡◌, refl, ap, ◌∙◌}
-use mathlib.Core.List.{List}
-use native.Mathlib.Omega.{arith}
-use lib.ListN.{get_or, set}
-use Rattle.contracts.proofs.Identifiers.{kept-fits, copied, copy, copied_all}
+use Rattle.std.proofs.Common.{arith, sym, ◌∙◌}
+use lib.Seq.{length-take-le}
+use Rattle.contracts.specs.Identifier.{kept_length, padded_of}
+use Rattle.contracts.proofs.Identifiers.{kept-fits, drop-zeros}
 use Rattle.contracts.proofs.identifier.padded.Goals as goal
 
-pub loop-i-init : goal.loop-i-init
-loop-i-init c = (omega arith, refl)
+pub slice_bounds-bytes-end : goal.slice_bounds-bytes-end
+slice_bounds-bytes-end c = omega (arith, c.kept_length-kept.ensures, kept-fits c.args.identifier.now)
 
-pub bounds-identifier-i : goal.bounds-identifier-i
-bounds-identifier-i c =
-    let f = kept-fits c.args.identifier.now in omega (arith, c.kept_length-kept.ensures)
+pub slice_bounds-copy_from_slice-end : goal.slice_bounds-copy_from_slice-end
+slice_bounds-copy_from_slice-end c = sym (length-take-le _ _ (omega (arith, c.kept_length-kept.ensures, kept-fits c.args.identifier.now)))
 
-pub bounds-bytes-i : goal.bounds-bytes-i
-bounds-bytes-i c =
-    let f = kept-fits c.args.identifier.now in omega (arith, c.kept_length-kept.ensures)
+pub slice_bounds-copy_from_slice-end-2 : goal.slice_bounds-copy_from_slice-end-2
+slice_bounds-copy_from_slice-end-2 c = sym (length-take-le _ _ (omega (arith, c.kept_length-kept.ensures, kept-fits c.args.identifier.now)))
 
-pub overflow_add-i : goal.overflow_add-i
-overflow_add-i c =
-    let f = kept-fits c.args.identifier.now in omega (arith, c.kept_length-kept.ensures)
-
-pub loop-i-smaller : goal.loop-i-smaller
-loop-i-smaller c = omega arith
-
-pub loop-i-preserved : goal.loop-i-preserved
-loop-i-preserved c =
-    let a = c.args in
-    let l = c.loop-i in
-    let k = c.kept_length-kept in
-    let f = kept-fits a.identifier.now in
-    (omega arith, ap (λ (b : List ℕ). set b l.i (get_or a.identifier.now l.i 0)) l.invariant.1 ∙ copy a.identifier.now l.i (omega (arith, k.ensures)) (omega (arith, k.ensures)))
+pub copy_from_slice-requires : goal.copy_from_slice-requires
+copy_from_slice-requires c =
+    length-take-le _ _ (omega (arith, c.kept_length-kept.ensures, kept-fits c.args.identifier.now))
+    ∙ sym (length-take-le _ _ (omega (arith, c.kept_length-kept.ensures, kept-fits c.args.identifier.now)))
 
 pub returns : goal.returns
+unfolding padded_of
 returns c =
-    let l = c.loop-i in
-    l.invariant.1 ∙ copied_all c.args.identifier.now l.i (omega (arith, c.kept_length-kept.ensures))
+    let k = kept_length c.args.identifier.now in
+    rw (c.copy_from_slice.ensures.after, c.kept_length-kept.ensures, drop-zeros 16 k)

@@ -1,37 +1,18 @@
 -- `contracts::terms::limits` meets its contract. The loop raises the limit by one award a turn, and 32 awards in units fit 64 bits.
 -- Assumes nothing.
-use Rattle.std.proofs.Common.{rules}
-use native.Mathlib.Omega.{arith}
-use Prim.Native.Nat.{◌-◌, ◌*◌, ◌^◌, ◌≤◌}
+use Rattle.std.proofs.Common.{arith}
 use Rattle.series.specs.Cuts.{no_sums}
 use Rattle.series.proofs.Cuts.{sums-32}
 use Rattle.contracts.specs.Terms.{upper_of}
-use Rattle.series.proofs.Scanned.{Scanned, scanned-none, scanned-more, scanned-whole}
+use Rattle.series.proofs.Scanned.{scanned-none, scanned-more, scanned-whole}
 use Rattle.contracts.proofs.terms.limits.Goals as goal
 
 pub loop-k-init : goal.loop-k-init
-loop-k-init c = rw c.no_limits-out.ensures (scanned-none upper_of upper_of 0 c.args.terms no_sums, omega arith)
-
-pub offset_bounds-terms-k : goal.offset_bounds-terms-k
-offset_bounds-terms-k c = omega arith
-
-pub bounds-terms-k : goal.bounds-terms-k
-bounds-terms-k c = omega arith
+unfolding no_sums
+loop-k-init c = (scanned-none upper_of upper_of 0 c.args.terms no_sums, omega arith)
 
 pub overflow_add-high : goal.overflow_add-high
 overflow_add-high c = omega arith
-
-pub offset_bounds-out-k : goal.offset_bounds-out-k
-offset_bounds-out-k c = omega arith
-
-pub bounds-out-k : goal.bounds-out-k
-bounds-out-k c = omega arith
-
-pub overflow_add-k : goal.overflow_add-k
-overflow_add-k c = omega arith
-
-pub loop-k-smaller : goal.loop-k-smaller
-loop-k-smaller c = omega arith
 
 pub loop-k-preserved : goal.loop-k-preserved
 unfolding upper_of

@@ -1,6 +1,5 @@
 -- `feed::Reader::new` meets its contract. Assumes nothing.
 use Rattle.feed.specs.Reader.{empty_reader}
-use Rattle.std.proofs.Common.{rules}
 use Rattle.feed.proofs.Reader.new.Goals as goal
 
 pub returns : goal.returns

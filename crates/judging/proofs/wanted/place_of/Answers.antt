@@ -5,15 +5,6 @@ use native.Mathlib.Omega.{arith}
 use Rattle.std.proofs.Common.{rules}
 use Rattle.judging.proofs.wanted.place_of.Goals as goal
 
-pub overflow_add-all : goal.overflow_add-all
-overflow_add-all c = omega (arith, c.requires)
-
-pub nonzero_div-quarter : goal.nonzero_div-quarter
-nonzero_div-quarter c = omega (arith, c.requires)
-
-pub nonzero_rem-rest : goal.nonzero_rem-rest
-nonzero_rem-rest c = omega (arith, c.requires)
-
 pub returns-then-rest-positives : goal.returns-then-rest-positives
 unfolding place_of
 returns-then-rest-positives c = rw (lt-ltb _ _ c.if-rest-positives.true)

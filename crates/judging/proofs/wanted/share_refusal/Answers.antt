@@ -22,21 +22,17 @@ returns-then-not-well_formed c = record {
 pub returns-then-not-is_wanted : goal.returns-then-not-is_wanted
 unfolding share_ground
 returns-then-not-is_wanted c =
-    let at-if1 = c in
-    let at-well-formed = at-if1 in record {
-      is = rw (sym at-well-formed.well_formed-2.ensures ∙ at-if1.if-not-well_formed.false, sym c.is_wanted.ensures ∙ c.if-not-is_wanted.true);
+    record {
+      is = rw (sym c.well_formed-2.ensures ∙ c.if-not-well_formed.false, sym c.is_wanted.ensures ∙ c.if-not-is_wanted.true);
       few = λ z. absurd (omega (arith, z));
     }
 
 pub returns : goal.returns
 unfolding share_ground wanted_in held_of least_of
 returns c =
-    let at-if1 = c in
-    let at-well-formed = at-if1 in
-    let start = at-well-formed in
     let told = sym c.is_wanted.ensures ∙ c.if-not-is_wanted.false in
-    let day : start.args.quarters ≤ 255 = omega (arith, start.ranges.quarters) in
-    let few : per_quarter start.args.books ≤ 64 = omega arith in record {
-      is = rw (sym at-well-formed.well_formed-2.ensures ∙ at-if1.if-not-well_formed.false, told);
-      few = λ z. omega (arith, among start.args.books start.args.quarters start.args.given start.args.share _ told, mul-le-mul day few);
+    let day : c.args.quarters ≤ 255 = omega (arith, c.ranges.quarters) in
+    let few : per_quarter c.args.books ≤ 64 = omega arith in record {
+      is = rw (sym c.well_formed-2.ensures ∙ c.if-not-well_formed.false, told);
+      few = λ z. omega (arith, among c.args.books c.args.quarters c.args.given c.args.share _ told, mul-le-mul day few);
     }

@@ -1,4 +1,4 @@
-use Rattle.std.proofs.Common.{◌≡◌, ℕ, ◌-◌, ◌≤◌, List, length as size, drop}
+use Rattle.std.proofs.Common.{◌≡◌, ℕ, List, length as size, drop}
 use Rattle.lines.specs.declared.Gatherer.{Gatherer}
 use Rattle.lines.specs.Gathering.{further, gathered_of}
 use Rattle.lines.proofs.Gatherer.gather.Given as goal
@@ -8,9 +8,5 @@ at-hand bytes length count = record { bytes = bytes; length = length; count = co
 
 abbrev pub invariant-loop-i : goal.invariant-loop-i
 invariant-loop-i l =
-    (l.i ≤ size l.block)
-    × (size l.bytes ≡ 81)
+    (size l.bytes ≡ 81)
     × (gathered_of (at-hand l.initial.bytes l.initial.length l.count) l.block ≡ further l.i (gathered_of (at-hand l.bytes l.length l.count) (drop l.i l.block)))
-
-abbrev pub decreases-loop-i : goal.decreases-loop-i
-decreases-loop-i l = size l.block - l.i

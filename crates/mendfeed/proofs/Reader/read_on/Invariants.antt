@@ -1,7 +1,5 @@
-use Rattle.std.proofs.Common.{ℕ, ◌-◌, ◌≤◌, length, sym, ◌∙◌, arith, rules}
-use Rattle.print.proofs.Writing.{wrote-length}
+use Rattle.std.proofs.Common.{◌-◌, ◌≤◌, length}
 use Rattle.mendfeed.specs.Steps.{So}
-use Rattle.mendfeed.proofs.ReaderLaws.{so-none, so-then, so-closed, so-full, so-done}
 use Rattle.mendfeed.proofs.Reader.read_on.Given as goal
 
 abbrev pub invariant-loop-i : goal.invariant-loop-i

@@ -1,9 +1,9 @@
 -- `mending::grid::is_outside` meets its contract. Assumes nothing.
-use Rattle.mending.specs.Mending.{seconds_of}
-use Rattle.std.proofs.Common.{◌≡◌, ℕ, ◌*◌, ◌/◌, not, eqb, leb, sym, ap, ◌∙◌, to_z-of_z, w32, rules, le-leb}
-use Rattle.arithmetic.specs.Whole.{up}
-use Rattle.mending.proofs.GridLaws.{below, past_end, by-multiple}
+use Rattle.std.proofs.Common.{◌≡◌, ℕ, ◌*◌, ◌/◌, not, eqb, leb, sym, ap, ◌∙◌, to_z-of_z, le-leb}
 use borrow.Author.Tests.{lt-leb}
+use Rattle.arithmetic.specs.Whole.{up}
+use Rattle.mending.specs.Mending.{seconds_of}
+use Rattle.mending.proofs.GridLaws.{below, past_end, by-multiple}
 use Rattle.mending.proofs.grid.is_outside.Goals.{After-above_zero-at, After-place_of-place}
 use Rattle.mending.proofs.grid.is_outside.Goals as goal
 
@@ -18,17 +18,15 @@ returns-then-second-lt0 c = sym (below c.args.grid c.args.second (rw (to_z-of_z 
 
 pub returns-then-grid-place : goal.returns-then-grid-place
 returns-then-grid-place c =
-    let at-if1 = c in
-    let start = at-if1 in
-    sym (past_end start.args.grid start.args.second (rw (to_z-of_z start.ranges.second) at at-if1.if-second-lt0.false)
-    (ap (leb start.args.grid.places) (sym (told-place (goal.at.returns-then-grid-place c).After-place_of-place)) ∙ le-leb _ _ c.if-grid-place.true))
+    le-leb _ _ c.if-grid-place.true
+    ∙ sym (past_end c.args.grid c.args.second (rw (to_z-of_z c.ranges.second) at c.if-second-lt0.false)
+    (ap (leb c.args.grid.places) (sym (told-place (goal.at.returns-then-grid-place c).After-place_of-place)) ∙ le-leb _ _ c.if-grid-place.true))
 
-pub returns : goal.returns
-returns c =
-    let at-if2 = c in
-    let at-if1 = at-if2 in
-    let start = at-if1 in
-    let t = start.args.grid in
-    ap not (λ k. eqb ((c.seconds_of.ensures ∙ ap (λ (p : ℕ). p * seconds_of t) (told-place (goal.at.returns c).After-place_of-place)) k) (told-second (goal.at.returns c).After-above_zero-at k))
-    ∙ sym (by-multiple t start.args.second (rw (to_z-of_z start.ranges.second) at at-if1.if-second-lt0.false)
-    (ap (leb t.places) (sym (told-place (goal.at.returns c).After-place_of-place)) ∙ lt-leb _ _ at-if2.if-grid-place.false))
+pub returns-else-grid-place : goal.returns-else-grid-place
+returns-else-grid-place c =
+    let place = told-place (goal.at.returns-else-grid-place c).After-place_of-place in
+    let multiple = c.seconds_of.ensures ∙ ap (λ (p : ℕ). p * seconds_of c.args.grid) place in
+    let second = c.from.ensures ∙ told-second (goal.at.returns-else-grid-place c).After-above_zero-at in
+    ap not (λ k. eqb (multiple k) (second k))
+    ∙ sym (by-multiple c.args.grid c.args.second (rw (to_z-of_z c.ranges.second) at c.if-second-lt0.false)
+    (ap (leb c.args.grid.places) (sym place) ∙ lt-leb _ _ c.if-grid-place.false))

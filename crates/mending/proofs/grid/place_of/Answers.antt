@@ -1,5 +1,5 @@
 -- `mending::grid::place_of` meets its contract. Assumes nothing.
-use Rattle.std.proofs.Common.{sym, div-one, rules}
+use Rattle.std.proofs.Common.{sym, div-one}
 use Rattle.mending.proofs.grid.place_of.Goals as goal
 
 pub returns-in-One : goal.returns-in-One

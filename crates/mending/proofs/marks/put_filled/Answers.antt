@@ -2,7 +2,7 @@
 use Rattle.sheets.proofs.Fields.{both}
 use Rattle.mending.proofs.GridLaws.{seconds-few}
 use Rattle.mending.specs.Mending.{item_text}
-use Rattle.std.proofs.Common.{◌≡◌, ℕ, ◌*◌, ◌^◌, ◌<◌, ◌≤◌, ℤ, pos, ap, mul-le-mul, arith, to_z-of_z, w64, SFits, rules}
+use Rattle.std.proofs.Common.{◌^◌, ◌≤◌, pos, mul-le-mul, arith, to_z-of_z, w64, SFits}
 use Rattle.mending.proofs.marks.put_filled.Goals.{After-seconds_of-second}
 use Rattle.mending.proofs.marks.put_filled.Goals as goal
 
@@ -18,8 +18,5 @@ overflow_cast-second c = fits-second (goal.at.overflow_cast-second c).After-seco
 pub returns : goal.returns
 unfolding item_text
 returns c =
-    let at-put-sample = c in
-    let at-put-mark = at-put-sample in
-    let at-seconds-of = at-put-mark in
     let f = fits-second (goal.at.returns c).After-seconds_of-second in
-    both (rw (to_z-of_z f, at-seconds-of.seconds_of-second.ensures) at at-put-mark.put_mark-line.ensures) at-put-sample.put_sample.ensures
+    both (rw (to_z-of_z f, c.seconds_of-second.ensures) at c.put_mark-line.ensures) c.put_sample.ensures

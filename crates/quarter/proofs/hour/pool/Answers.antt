@@ -5,6 +5,4 @@ use Rattle.quarter.proofs.hour.pool.Goals as goal
 
 pub returns : goal.returns
 unfolding pool_of
-returns c =
-    let sums = c in
-    rw sums.summed-sums.ensures
+returns c = rw c.summed-sums.ensures

@@ -10,28 +10,25 @@ use Rattle.quarter.proofs.hour.quarter_hour.Goals as goal
 
 pub sheet-requires : goal.sheet-requires
 sheet-requires c =
-    let m = c in
-    let a = m.args in
-    rw m.measure-measured.ensures (measured-sound a.channel a.setpoints a.actuals m.book-positive.result m.book-negative.result).0
+    let a = c.args in
+    rw c.measure-measured.ensures (measured-sound a.channel a.setpoints a.actuals c.book-positive.result c.book-negative.result).0
 
 pub sheet-requires-2 : goal.sheet-requires-2
 sheet-requires-2 c =
-    let m = c in
-    let a = m.args in
-    rw m.measure-measured.ensures (measured-sound a.channel a.setpoints a.actuals m.book-positive.result m.book-negative.result).1
+    let a = c.args in
+    rw c.measure-measured.ensures (measured-sound a.channel a.setpoints a.actuals c.book-positive.result c.book-negative.result).1
 
 pub returns : goal.returns
 unfolding quarter_held quarter_of sheet_of measured_held measured_of
 returns c =
-    let m = c in
-    let above = m.book-positive in
-    let below = m.book-negative in
+    let above = c.book-positive in
+    let below = c.book-negative in
     let n : length above.result.contracts ≡ 32 = search (unmapped, above.type_inv) in
     let k : length below.result.contracts ≡ 32 = search (unmapped, below.type_inv) in
     rw (
       c.sheet-2.ensures,
       c.sheet.ensures,
-      m.measure-measured.ensures,
+      c.measure-measured.ensures,
       terms-listed above.result n,
       terms-listed below.result k,
       below.ensures,

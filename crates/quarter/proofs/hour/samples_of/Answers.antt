@@ -1,6 +1,5 @@
 -- `quarter::hour::samples_of` meets its contract.
 -- Assumes nothing.
-use Rattle.std.proofs.Common.{rules}
 use Rattle.claims.specs.Claims.{samples_of}
 use Rattle.claims.proofs.Quarters.{samples-few}
 use mathlib.Core.Path.{refl}
@@ -10,4 +9,4 @@ pub returns : goal.returns
 unfolding samples_of
 returns c =
     let i = c.args.channel.interval in
-    rw (c.windows-windows.ensures, c.interval-interval.ensures) (refl, samples-few i)
+    rw (c.windows.ensures, c.interval.ensures) (refl, samples-few i)

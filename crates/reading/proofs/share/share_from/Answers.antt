@@ -1,22 +1,47 @@
 -- `reading::share::share_from` meets its contract: each field is that of the line. Assumes nothing.
-use native.Mathlib.Omega.{arith}
+use Rattle.std.proofs.Common.{rules, eq-eqb, ne_eqb}
 use Rattle.reading.specs.Share.{share_of}
-use Rattle.reading.proofs.CountLaws.{not-so-many, so-many}
-use Rattle.std.proofs.Common.{rules}
 use Rattle.reading.proofs.share.share_from.Goals as goal
 
-pub returns-then-split-ne5 : goal.returns-then-split-ne5
+pub returns-then-count-ne5 : goal.returns-then-count-ne5
 unfolding share_of
-returns-then-split-ne5 c = rw (not-so-many _ c.requires c.if-split-ne5.true)
+returns-then-count-ne5 c = rw (← c.count.ensures, ne_eqb _ _ c.if-count-ne5.true)
+
+pub returns-in_default : goal.returns-in_default
+unfolding share_of
+returns-in_default c = rw (← c.count.ensures, eq-eqb _ _ c.if-count-ne5.false, ← c.in_default.ensures)
+
+pub returns-in_default-direction_of : goal.returns-in_default-direction_of
+unfolding share_of
+returns-in_default-direction_of c =
+    rw (
+      ← c.count.ensures,
+      eq-eqb _ _ c.if-count-ne5.false,
+      ← c.in-Some.ensures,
+      ← c.field.ensures,
+      ← c.in_default-direction_of.ensures,
+    )
+
+pub returns-in_default-number : goal.returns-in_default-number
+unfolding share_of
+returns-in_default-number c =
+    rw (
+      ← c.count.ensures,
+      eq-eqb _ _ c.if-count-ne5.false,
+      ← c.in-Some.ensures,
+      ← c.field.ensures,
+      ← c.in-Some-direction_of.ensures,
+      ← c.in_default-number.ensures,
+    )
 
 pub returns : goal.returns
 unfolding share_of
 returns c =
-    let same = c.requires in
     rw (
-      so-many _ same c.if-split-ne5.false,
-      ← c.number_at-quarter.ensures,
-      ← c.field.ensures.its_own same (omega arith),
-      ← c.direction_of-direction.ensures,
-      ← c.number_at-kwh.ensures,
-    ) c.share_of.ensures
+      ← c.count.ensures,
+      eq-eqb _ _ c.if-count-ne5.false,
+      ← c.in-Some.ensures,
+      ← c.field.ensures,
+      ← c.in-Some-direction_of.ensures,
+      ← c.in-Some-number.ensures,
+    ) (search rules)

@@ -1,17 +1,32 @@
 -- `settlement::grounds::seconds_known` meets its contract.
 -- Assumes nothing.
-use borrow.Author.Tests.{eq-eqb, ne_eqb}
+use Rattle.std.proofs.Common.{arith, ◌≡◌}
+use native.Mathlib.Decide.{ℕ_discrete}
+use borrow.Author.Tests.{ne_eqb}
 use Rattle.settlement.specs.Calls.{seconds_known}
 use Rattle.settlement.proofs.grounds.seconds_known.Goals as goal
 
-pub returns-then-seconds-eq1 : goal.returns-then-seconds-eq1
+pub returns-in_default : goal.returns-in_default
 unfolding seconds_known
-returns-then-seconds-eq1 c = rw (eq-eqb _ _ c.if-seconds-eq1.true)
+returns-in_default c =
+    let s = c.args.seconds in
+    rw (ne_eqb s 1 (λ e. omega arith), ne_eqb s 3 (λ e. omega arith), ne_eqb s 4 (λ e. omega arith))
 
-pub returns-then-seconds-eq3 : goal.returns-then-seconds-eq3
+pub returns-in_default-2 : goal.returns-in_default-2
 unfolding seconds_known
-returns-then-seconds-eq3 c = rw (ne_eqb _ _ c.if-seconds-eq1.false, eq-eqb _ _ c.if-seconds-eq3.true)
+returns-in_default-2 c =
+    let s = c.args.seconds in
+    rw (ne_eqb s 1 (λ e. omega arith), ne_eqb s 3 (λ e. omega arith), ne_eqb s 4 (λ e. omega arith))
 
-pub returns : goal.returns
+pub returns-in-1 : goal.returns-in-1
 unfolding seconds_known
-returns c = rw (ne_eqb _ _ c.if-seconds-eq1.false, ne_eqb _ _ c.if-seconds-eq3.false)
+returns-in-1 c = rw c.in-1.is
+
+pub returns-in-1-2 : goal.returns-in-1-2
+unfolding seconds_known
+returns-in-1-2 c =
+    let s = c.args.seconds in
+    elim (ℕ_discrete s 3) [
+      | yes e ↦ rw e
+      | no e ↦ let four : s ≡ 4 = omega arith in rw four
+    ]

@@ -1,17 +1,18 @@
 -- `settlement::plan::interval_of` meets its contract.
 -- Assumes nothing.
-use borrow.Author.Tests.{eq-eqb, ne_eqb}
+use Rattle.std.proofs.Common.{arith}
+use borrow.Author.Tests.{ne_eqb}
 use Rattle.settlement.specs.Calls.{interval_of}
 use Rattle.settlement.proofs.plan.interval_of.Goals as goal
 
-pub returns-then-seconds-eq1 : goal.returns-then-seconds-eq1
+pub returns-in-1 : goal.returns-in-1
 unfolding interval_of
-returns-then-seconds-eq1 c = rw (eq-eqb _ _ c.if-seconds-eq1.true)
+returns-in-1 c = rw c.in-1.is
 
-pub returns-then-seconds-eq3 : goal.returns-then-seconds-eq3
+pub returns-in-3 : goal.returns-in-3
 unfolding interval_of
-returns-then-seconds-eq3 c = rw (ne_eqb _ _ c.if-seconds-eq1.false, eq-eqb _ _ c.if-seconds-eq3.true)
+returns-in-3 c = rw c.in-3.is
 
-pub returns : goal.returns
+pub returns-in_default : goal.returns-in_default
 unfolding interval_of
-returns c = rw (ne_eqb _ _ c.if-seconds-eq1.false, ne_eqb _ _ c.if-seconds-eq3.false)
+returns-in_default c = rw (ne_eqb c.args.seconds 1 (λ e. omega arith), ne_eqb c.args.seconds 3 (λ e. omega arith))

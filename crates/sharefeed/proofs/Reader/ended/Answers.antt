@@ -1,6 +1,5 @@
 -- `sharefeed::Reader::ended` meets its contract. Assumes nothing.
-use Rattle.std.proofs.Common.{rules}
 use Rattle.sharefeed.proofs.Reader.ended.Goals as goal
 
-pub returns : goal.returns
-returns c = rw (c.with.ensures, c.fresh.ensures, c.served-after.ensures)
+pub returns-clause-is : goal.returns-clause-is
+returns-clause-is c = rw (c.fresh-self.ensures, c.served.ensures.is)

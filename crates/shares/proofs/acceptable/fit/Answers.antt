@@ -3,7 +3,6 @@
 use mir.ValLaws.{to_z-of_z}
 use mir.Syntax.{w32}
 use borrow.Author.Tests.{eq-eqb, ne_eqb}
-use Rattle.std.proofs.Common.{rules}
 use Rattle.shares.specs.Acceptable.{fit_of}
 use Rattle.shares.proofs.acceptable.fit.Goals as goal
 
@@ -20,7 +19,7 @@ returns-then-total-eq0 c =
     rw (
       rw e at c.if-share-lt0.false,
       eq-eqb _ _ c.if-total-eq0.true,
-      c.wide32-kwh.ensures.0,
+      c.from-kwh.ensures,
       c.above_zero.ensures,
       e,
     )
@@ -33,8 +32,8 @@ returns c =
       rw e at c.if-share-lt0.false,
       ne_eqb _ _ c.if-total-eq0.false,
       c.near.ensures,
-      c.wide32-kwh.ensures.0,
+      c.from-kwh.ensures,
       c.above_zero.ensures,
       e,
-      c.wide32.ensures.0,
+      c.from.ensures,
     )

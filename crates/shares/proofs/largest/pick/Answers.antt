@@ -9,6 +9,7 @@ use Prim.Native.Nat.{ℕ, ◌+◌, ◌≤◌, ◌<◌, ◌-◌}
 use mathlib.Core.List.{List}
 use lib.ListN.{get_or}
 use Rattle.shares.specs.Largest.{pick_of}
+use Rattle.shares.proofs.largest.pick.Goals.{then-rests-best, else-rests-best}
 use Rattle.shares.proofs.largest.pick.Goals as goal
 
 module _ (rs : List ℕ) (i : ℕ) where
@@ -24,20 +25,19 @@ pub loop-i-init : goal.loop-i-init
 unfolding pick_of
 loop-i-init c = search rules
 
-pub loop-i-preserved-then-rests-best : goal.loop-i-preserved-then-rests-best
-loop-i-preserved-then-rests-best c =
-    let l = c.loop-i in
-    let rs = c.args.rests in
-    (sym (further rs l.i (rw (← l.invariant.0) c.if-rests-best.true)), search rules)
-
 pub loop-i-preserved : goal.loop-i-preserved
 loop-i-preserved c =
     let l = c.loop-i in
     let rs = c.args.rests in
-    (l.invariant.0 ∙ sym (same rs l.i (rw (← l.invariant.0) c.if-rests-best.false)), search rules)
+    let e : l.i - 1 + 1 ≡ l.i = omega arith in
+    let f : l.i + 1 - 1 ≡ l.i = omega arith in
+    elim c.if-rests-best.branch [
+      | then-rests-best w ↦ rw (f, w.best-is) (sym (rw e at (further rs (l.i - 1) (rw (e, ← l.invariant.0) w.if-rests-best.true))), omega arith)
+      | else-rests-best w ↦ rw (f, w.best-is) (l.invariant.0 ∙ sym (rw e at (same rs (l.i - 1) (rw (e, ← l.invariant.0) w.if-rests-best.false))), omega arith)
+    ]
 
 pub returns : goal.returns
 returns c =
     let l = c.loop-i in
-    let e : l.i ≡ 31 = omega arith in
-    (l.invariant.0 ∙ rw e, search rules)
+    let e : l.i - 1 ≡ 31 = omega arith in
+    (rw e at l.invariant.0, omega arith)

@@ -1,7 +1,6 @@
 -- `sheets::verdict::put_failing` meets its contract. Assumes nothing.
 use Rattle.sheets.proofs.Fields.{ended}
 use Rattle.sheets.specs.Verdict.{failing_text}
-use Rattle.std.proofs.Common.{rules}
 use Rattle.sheets.proofs.verdict.put_failing.Goals as goal
 
 pub returns : goal.returns

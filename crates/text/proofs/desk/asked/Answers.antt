@@ -1,11 +1,11 @@
--- `text::desk::asked` meets its contract: each line asks what the definition says. Assumes nothing.
+-- `text::desk::asked` meets its contract. Each line asks what the definition says. Assumes nothing.
 use Rattle.text.specs.Serving.{asked_of}
-use Rattle.std.proofs.Common.{◌≡◌, to_z, of_z, w32, rules}
+use Rattle.std.proofs.Common.{◌≡◌, to_z, of_z, w32, inl, inr, rules}
 use Rattle.text.proofs.desk.asked.Goals as goal
 
 pub returns-in-Header : goal.returns-in-Header
 unfolding asked_of
-returns-in-Header c = rw c.in-Header.is c.unasked.ensures
+returns-in-Header c = elim c.in-Header.is [ inl header ↦ rw header.1 | inr end ↦ rw end ]
 
 pub returns-in-Bounds : goal.returns-in-Bounds
 unfolding asked_of
@@ -26,10 +26,6 @@ pub returns-in-Sample : goal.returns-in-Sample
 unfolding asked_of
 returns-in-Sample c = rw c.in-Sample.is c.sample.ensures
 
-pub returns-in-End : goal.returns-in-End
-unfolding asked_of
-returns-in-End c = rw c.in-End.is c.unasked-in-End.ensures
-
 pub returns-in-Malformed : goal.returns-in-Malformed
 unfolding asked_of
-returns-in-Malformed c = rw c.in-Malformed.is c.unasked-in-Malformed.ensures
+returns-in-Malformed c = rw c.in-Malformed.is

@@ -1,7 +1,7 @@
 -- `text::desk::samples` meets its contract. Assumes nothing.
 use Rattle.sheets.proofs.Yielding.{too_short}
 use Rattle.text.proofs.Telling.{settles}
-use Rattle.std.proofs.Common.{refl, arith, rules}
+use Rattle.std.proofs.Common.{refl, arith}
 use Rattle.text.proofs.desk.samples.Goals as goal
 
 pub returns-then-out-lt-BUFFER : goal.returns-then-out-lt-BUFFER

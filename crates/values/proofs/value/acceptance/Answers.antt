@@ -1,6 +1,5 @@
 -- `values::value::acceptance` meets its contract.
 -- Assumes nothing.
-use Rattle.std.proofs.Common.{rules}
 use Rattle.values.specs.Part.{acceptance_of}
 use Rattle.values.proofs.value.acceptance.Goals as goal
 

@@ -1,6 +1,5 @@
 -- `values::value::ceiling` meets its contract.
 -- Assumes nothing.
-use Rattle.std.proofs.Common.{rules}
 use Rattle.values.specs.Part.{ceiling_of}
 use Rattle.values.proofs.value.ceiling.Goals as goal
 

@@ -1,6 +1,5 @@
 -- `values::value::floor` meets its contract.
 -- Assumes nothing.
-use Rattle.std.proofs.Common.{rules}
 use Rattle.values.specs.Part.{floor_of}
 use Rattle.values.proofs.value.floor.Goals as goal
 

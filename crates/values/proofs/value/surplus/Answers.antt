@@ -4,7 +4,6 @@ use mathlib.Core.Path.{◌≡◌}
 use Prim.Native.Nat.{ℕ, ◌-◌, ◌*◌, ◌≤◌}
 use native.Mathlib.Omega.{arith}
 use borrow.Author.Tests.{eq-eqb, ne_eqb}
-use Rattle.std.proofs.Common.{rules}
 use Rattle.arithmetic.specs.Whole.{least_of, most_of}
 use Rattle.values.specs.declared.part.Part.{Part}
 use Rattle.values.specs.Part.{acceptance_of, ceiling_of, surplus_of}
@@ -23,25 +22,19 @@ less-accepted : (actual outer ceiling : ℕ) → outer ≤ ceiling → least_of 
 unfolding least_of
 less-accepted actual outer ceiling h = omega arith
 
-pub returns-then-outer-eq0 : goal.returns-then-outer-eq0
+pub returns-then-unreached : goal.returns-then-unreached
 unfolding surplus_of
-returns-then-outer-eq0 c = rw (eq-eqb c.args.p.outer.0 0 c.if-outer-eq0.true)
+returns-then-unreached c = rw (eq-eqb c.args.p.outer.0 0 c.if-unreached.true)
 
 pub overflow_sub-result : goal.overflow_sub-result
 overflow_sub-result c =
-    let least = c in
-    let accepted = c.acceptance-accepted in
-    let part : accepted.result.0 ≤ least.least-reached.result.0 =
-    rw (accepted.ensures, least.least-reached.ensures, least.scaled.ensures, least.ceiling.ensures) (accepted-reached _) in
+    let part : c.acceptance-accepted.result.0 ≤ c.least-reached.result.0 =
+    rw (c.acceptance-accepted.ensures, c.least-reached.ensures, c.scaled.ensures, c.ceiling.ensures) (accepted-reached _) in
     omega (arith, part)
 
 pub returns : goal.returns
 unfolding acceptance_of surplus_of
 returns c =
-    let least = c in
-    let scaled = least in
-    let past = scaled in
-    let p = past.args.p in
-    rw
-    (ne_eqb p.outer.0 0 past.if-outer-eq0.false, c.acceptance-accepted.ensures, least.least-reached.ensures, scaled.scaled.ensures, least.ceiling.ensures)
+    let p = c.args.p in
+    rw (ne_eqb p.outer.0 0 c.if-unreached.false, c.acceptance-accepted.ensures, c.least-reached.ensures, c.scaled.ensures, c.ceiling.ensures)
     (less-accepted (p.actual * 5400) p.outer.0 (ceiling_of p) (outer-reached p))

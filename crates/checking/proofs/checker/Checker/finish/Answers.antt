@@ -1,42 +1,21 @@
 -- `checking::checker::Checker::finish` meets its contract. Assumes nothing.
-use Rattle.judging.specs.Kept.{keeping}
+use Rattle.std.proofs.Common.{◌+◌, ◌%◌, ◌^◌}
+use Rattle.judging.specs.Kept.{kept_in}
 use Rattle.checking.specs.Checker.{standing, finish_text}
 use Rattle.checking.proofs.AnswerLaws.{finish-parts}
-use Rattle.std.proofs.Common.{rules}
 use Rattle.checking.proofs.checker.Checker.finish.Goals as goal
 
-pub returns-in-Refused : goal.returns-in-Refused
+pub returns-in-Ok : goal.returns-in-Ok
 unfolding finish_text
-returns-in-Refused c =
-    let at-print-fault = c in
-    let at-end = at-print-fault in
-    let at-end-at = at-end in
-    let at-wrapping-add-u64 = at-end-at in
-    let start = at-wrapping-add-u64 in
-    let a = start.args in
-    let s = standing a.self (keeping a.gaps.now a.surpluses.now a.shares.now) in
-    rw (
-      ← at-wrapping-add-u64.wrapping_add_u64-number.ensures.value,
-      finish-parts a.self.stage s
-          at-wrapping-add-u64.wrapping_add_u64-number.result,
-      ← at-end-at.end_at-end.ensures,
-      at-end.in-Refused.is,
-    ) at-print-fault.print_fault.ensures
+returns-in-Ok c =
+    let a = c.args in
+    let s = standing a.self (kept_in a.kept.now) in
+    rw (finish-parts a.self.stage s ((a.count + 1) % 2 ^ 64), ← c.in-Ok.ensures) c.ruled.ensures
 
-pub returns-in-Ruled : goal.returns-in-Ruled
+pub returns-in-Err : goal.returns-in-Err
 unfolding finish_text
-returns-in-Ruled c =
-    let at-ruled = c in
-    let at-end2 = at-ruled in
-    let at-end-at = at-end2 in
-    let at-wrapping-add-u64 = at-end-at in
-    let start = at-wrapping-add-u64 in
-    let a = start.args in
-    let s = standing a.self (keeping a.gaps.now a.surpluses.now a.shares.now) in
-    rw (
-      ← at-wrapping-add-u64.wrapping_add_u64-number.ensures.value,
-      finish-parts a.self.stage s
-          at-wrapping-add-u64.wrapping_add_u64-number.result,
-      ← at-end-at.end_at-end.ensures,
-      at-end2.in-Ruled.is,
-    ) at-ruled.ruled.ensures
+returns-in-Err c =
+    let a = c.args in
+    let s = standing a.self (kept_in a.kept.now) in
+    let p = c.print_refusal.ensures in
+    rw (finish-parts a.self.stage s ((a.count + 1) % 2 ^ 64), ← c.in-Err.ensures) (record { answer = p.answer; bytes = p.bytes; room = p.room })

@@ -1,18 +1,20 @@
 -- `checking::checker::Checker::next` meets its contract. Assumes nothing.
 use Rattle.std.proofs.Common.{◌∙◌, rules}
-use Rattle.judging.specs.Kept.{keeping}
+use Rattle.judging.specs.Kept.{kept_in}
 use Rattle.reading.specs.Share.{asked_of}
 use Rattle.checking.proofs.AnswerLaws.{next-parts}
 use Rattle.checking.proofs.checker.Checker.next.Goals as goal
 
-pub returns : goal.returns
-returns c =
-    let at-answered = c in
-    let at-what-follows = at-answered in
-    let at-answer-to = at-what-follows in
-    let at-read-asked = at-answer-to in
-    let start = at-read-asked in
-    let a = start.args in
-    λ shares.
-    next-parts (keeping a.gaps.now a.surpluses.now shares) a.run a.number a.line.now (asked_of a.line.now)
-    ∙ rw (← at-read-asked.read_asked-asked.ensures, ← at-answer-to.answer_to-answer.ensures, ← at-what-follows.what_follows.ensures) (at-answered.answered.ensures shares)
+pub returns-in_err-answer-clause-is : goal.returns-in_err-answer-clause-is
+returns-in_err-answer-clause-is c =
+    let a = c.args in
+    λ number.
+    next-parts (kept_in a.kept.now) a.self.now.run number a.line.now (asked_of a.line.now)
+    ∙ rw (← c.read_asked-asked.ensures, ← c.answer_to-answer.ensures, c.in_err-answer.was) (search rules)
+
+pub returns-clause-is : goal.returns-clause-is
+returns-clause-is c =
+    let a = c.args in
+    λ number.
+    next-parts (kept_in a.kept.now) a.self.now.run number a.line.now (asked_of a.line.now)
+    ∙ rw (← c.read_asked-asked.ensures, ← c.answer_to-answer.ensures, c.in_ok-answer.was) c.following.ensures.is

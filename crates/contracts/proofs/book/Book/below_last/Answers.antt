@@ -1,34 +1,27 @@
--- `contracts::book::Book::below_last` meets its contract: the last contract listed is the one at the number of them less 1.
+-- `contracts::book::Book::below_last` meets its contract.
 -- Assumes nothing.
-use Prim.Native.Nat.{◌-◌}
-use mathlib.Core.Path.{sym, ap, ◌∙◌}
-use native.Mathlib.Omega.{arith}
+use Rattle.std.proofs.Common.{rules, length, ◌<◌, ◌≤◌, sym, ap, ◌∙◌}
+use borrow.Author.Tests.{ltb-true, ltb-false}
 use lib.Signed.{lt_z}
-use lib.ListN.{get_or}
 use mir.Facts.{to_z-of_z}
-use Rattle.arithmetic.proofs.Signed.{back32}
 use Rattle.contracts.specs.Book.{below_last}
-use Rattle.contracts.proofs.Looking.{no-contract, none_before, last-before}
+use Rattle.contracts.specs.declared.book.Awarded.{Awarded}
+use Rattle.contracts.proofs.Looking.{none_before, before_last}
 use Rattle.contracts.proofs.book.Book.below_last.Goals as goal
 
-pub returns-then-held-lt1 : goal.returns-then-held-lt1
-returns-then-held-lt1 c =
-    let a = c.args in
-    let h = c.held-held in
-    sym (ap (below_last a.price) h.ensures.all ∙ none_before a.price a.self.contracts h.result c.if-held-lt1.true)
+pub returns-in-Some : goal.returns-in-Some
+returns-in-Some c =
+    let cs = c.given.result.now in
+    let price = c.args.price in
+    let last = c.in-Some.last.now in
+    let g = rw c.in-Some.is at c.last.ensures.item in
+    let some : 0 < length cs = ltb-true 0 (length cs) (sym g.0) in
+    let told = ap (λ (x : Awarded). lt_z price x.price) g.1 ∙ sym (before_last price cs last some) ∙ ap (below_last price) c.given.ensures.listed in
+    rw (to_z-of_z c.ranges.price) (search (rules, told))
 
-pub offset_bounds-contracts-held : goal.offset_bounds-contracts-held
-offset_bounds-contracts-held c = omega arith
-
-pub bounds-contracts-held : goal.bounds-contracts-held
-bounds-contracts-held c = omega arith
-
-pub returns : goal.returns
-returns c =
-    let b = c in
-    let a = b.args in
-    let h = b.held-held in
-    let last = get_or a.self.contracts (h.result - 1) no-contract in
-    rw (to_z-of_z b.ranges.price)
-    (ap (lt_z a.price) (back32 {z = last.price} c.struct_told-1.given.1.1.1.0.1)
-    ∙ sym (ap (below_last a.price) h.ensures.all ∙ last-before a.price a.self.contracts h.result no-contract b.if-held-lt1.false h.ensures.fits))
+pub returns-in-None : goal.returns-in-None
+returns-in-None c =
+    let cs = c.given.result.now in
+    let g = rw c.in-None.is at c.last.ensures.item in
+    let none : length cs ≤ 0 = ltb-false 0 (length cs) (sym g.0) in
+    sym (none_before c.args.price cs none) ∙ ap (below_last c.args.price) c.given.ensures.listed

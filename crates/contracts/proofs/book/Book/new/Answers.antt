@@ -1,6 +1,5 @@
 -- `contracts::book::Book::new` meets its contract.
 -- Assumes nothing.
-use Rattle.std.proofs.Common.{rules}
 use Rattle.contracts.specs.Book.{empty_book}
 use Rattle.contracts.proofs.book.Book.new.Goals as goal
 

@@ -1,12 +1,12 @@
 -- `contracts::book::Book::refusal` meets its contract: each test of the code is a ground of the cascade, in its order.
 -- Assumes nothing.
-use borrow.Author.Tests.{not-true, not-false, le-leb, lt-leb}
+use borrow.Author.Tests.{le-leb, lt-leb}
 use mathlib.Core.Bool.{true, false}
 use mathlib.Core.Path.{◌≡◌, sym, ◌∙◌}
 use mir.Facts.{to_z-of_z}
 use Rattle.contracts.specs.Identifier.{well_formed}
 use Rattle.contracts.specs.Book.{listed, full, taken, award_in_range, awards_too_high, price_in_range, below_last, contract_refusal}
-use Rattle.contracts.proofs.book.Book.refusal.Goals.{After-awards_too_high, After-below_last, After-within, After-within-2, Else-awards_too_high, Else-holds-2, Else-not-well_formed, Else-not-within, Else-not-within-2, Else-self-ge32}
+use Rattle.contracts.proofs.book.Book.refusal.Goals.{After-awards_too_high, After-below_last, After-within, After-within-2, Else-awards_too_high, Else-holds-2, Else-not-well_formed, Else-not-within, Else-not-within-2, Else-self-ge32, then-holds-via-then-holds, then-holds-via-else-holds+then-holds-2}
 use Rattle.contracts.proofs.book.Book.refusal.Goals as goal
 
 -- ---- what the calls tell
@@ -38,7 +38,7 @@ past-8 : (c : Else-holds-2) → taken c.args.identifier.now c.args.self c.args.o
 unfolding taken
 past-8 c =
     let own = c in
-    rw (← own.padded-bytes.ensures, sym own.holds.ensures ∙ own.if-holds.false, sym c.holds-2.ensures ∙ c.if-holds-2.false)
+    rw (← own.padded-bytes.ensures, sym own.holds.ensures ∙ own.if-holds.false, sym c.holds-else-holds.ensures ∙ c.if-holds-2.false)
 
 past-9 : (c : Else-not-within) → award_in_range c.args.award ≡ true
 unfolding award_in_range
@@ -67,13 +67,12 @@ pub returns-then-holds : goal.returns-then-holds
 unfolding contract_refusal taken
 returns-then-holds c =
     let at = goal.at.returns-then-holds c in
-    rw (past-6 at.Else-self-ge32, past-7 at.Else-not-well_formed, ← c.padded-bytes.ensures, sym c.holds.ensures ∙ c.if-holds.true)
-
-pub returns-then-holds-2 : goal.returns-then-holds-2
-unfolding contract_refusal taken
-returns-then-holds-2 c =
-    let at = goal.at.returns-then-holds-2 c in
-    rw (past-6 at.Else-self-ge32, past-7 at.Else-not-well_formed, ← c.padded-bytes.ensures, sym c.holds.ensures ∙ c.if-holds.false, sym c.holds-2.ensures ∙ c.if-holds-2.true)
+    let found : taken c.args.identifier.now c.args.self c.args.other ≡ true =
+    elim c.then-holds.branch [
+      | then-holds-via-then-holds w ↦ rw (← c.padded-bytes.ensures, sym c.holds.ensures ∙ w.if-holds.true)
+      | then-holds-via-else-holds+then-holds-2 w ↦ rw (← c.padded-bytes.ensures, sym c.holds.ensures ∙ w.if-holds.false, sym w.holds-else-holds.ensures ∙ w.if-holds-2.true)
+    ] in
+    rw (past-6 at.Else-self-ge32, past-7 at.Else-not-well_formed, found)
 
 pub returns-then-not-within : goal.returns-then-not-within
 unfolding contract_refusal

@@ -1,6 +1,6 @@
 -- `mending::mender::Mender::end_refusal` meets its contract. Assumes nothing.
+use Rattle.std.proofs.Common.{eq-eqb, ne_eqb}
 use Rattle.mending.specs.Mender.{end_refusal}
-use Rattle.std.proofs.Common.{rules, eq-eqb, ne_eqb}
 use Rattle.mending.proofs.mender.Mender.end_refusal.Goals as goal
 
 pub returns-then-self-eq0 : goal.returns-then-self-eq0

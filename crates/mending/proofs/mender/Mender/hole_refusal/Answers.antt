@@ -1,6 +1,5 @@
 -- `mending::mender::Mender::hole_refusal` meets its contract. Assumes nothing.
 use Rattle.mending.specs.Mender.{hole_refusal}
-use Rattle.std.proofs.Common.{rules}
 use Rattle.mending.proofs.mender.Mender.hole_refusal.Goals as goal
 
 pub returns-then-lacks_start : goal.returns-then-lacks_start

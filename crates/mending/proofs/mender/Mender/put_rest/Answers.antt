@@ -1,6 +1,5 @@
 -- `mending::mender::Mender::put_rest` meets its contract. Assumes nothing.
 use Rattle.mending.specs.Mender.{rest_items}
-use Rattle.std.proofs.Common.{rules}
 use Rattle.mending.proofs.mender.Mender.put_rest.Goals as goal
 
 pub returns : goal.returns

@@ -1,6 +1,5 @@
 -- `mending::mender::Mender::refused` meets its contract. Assumes nothing.
 use Rattle.mending.proofs.TurnLaws.{refused-told}
-use Rattle.std.proofs.Common.{rules}
 use Rattle.mending.proofs.mender.Mender.refused.Goals as goal
 
 pub returns : goal.returns

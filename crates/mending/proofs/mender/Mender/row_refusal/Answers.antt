@@ -1,75 +1,66 @@
 -- `mending::mender::Mender::row_refusal` meets its contract. Assumes nothing.
-use Rattle.mending.specs.Mender.{earlier_than, row_refusal}
+use Rattle.std.proofs.Common.{◌≡◌, ℤ, Bool, Option, sym, ◌∙◌, to_z-of_z, to_z, of_z, w32, SFits, rules}
 use Rattle.vocabulary.specs.Sample.{power_in_range}
-use Rattle.arithmetic.proofs.Signed.{back32}
-use Rattle.std.proofs.Common.{◌≡◌, sym, ap, ◌∙◌, rules, eq-eqb, ne_eqb}
-use borrow.Author.Tests.{not-true, not-false}
-use Rattle.mending.proofs.mender.Mender.row_refusal.Goals.{After-in_range, After-in_range-2, After-is_earlier}
+use Rattle.vocabulary.proofs.Answers.{err-refused}
+use Rattle.mending.specs.Mender.{earlier_than, row_refusal}
+use Rattle.mending.proofs.mender.Mender.row_refusal.Goals.{then-not-in_range-via-then-not-in_range, then-not-in_range-via-else-not-in_range+then-not-in_range-2}
 use Rattle.mending.proofs.mender.Mender.row_refusal.Goals as goal
 
-told-setpoint : (c : After-in_range) → c.in_range.result ≡ power_in_range c.args.row.sample.setpoint
-told-setpoint c = c.in_range.ensures ∙ ap power_in_range (back32 {z = c.args.row.sample.setpoint} c.struct_told-1.given.0.1)
+-- what a call says of a number of 32 bits
+ranged : (z : ℤ) {b t : Bool} → SFits w32 z → b ≡ power_in_range (to_z w32 (of_z w32 z)) → b ≡ t → power_in_range z ≡ t
+ranged z f e h = sym (rw (to_z-of_z f) at e) ∙ h
 
-told-actual : (c : After-in_range-2) → c.in_range-2.result ≡ power_in_range c.args.row.sample.actual
-told-actual c =
-    c.in_range-2.ensures
-    ∙ ap power_in_range (back32 {z = c.args.row.sample.actual} c.struct_told-2-1.given.1.0.1)
-
-told-earlier : (c : After-is_earlier)
-    → (let a = c.args in c.is_earlier.result ≡ earlier_than a.self.before a.row.second)
-told-earlier c =
-    let a = c.args in
-    c.is_earlier.ensures ∙ ap (earlier_than a.self.before) (back32 {z = a.row.second} c.struct_told-3-1.given.0.1)
+later : (before : Option ℤ) (z : ℤ) {b t : Bool} → SFits w32 z → b ≡ earlier_than before (to_z w32 (of_z w32 z)) → b ≡ t → earlier_than before z ≡ t
+later before z f e h = sym (rw (to_z-of_z f) at e) ∙ h
 
 pub returns-then-not-in_range : goal.returns-then-not-in_range
 unfolding row_refusal
-returns-then-not-in_range c = rw (sym (told-setpoint (goal.at.returns-then-not-in_range c).After-in_range) ∙ c.if-not-in_range.true)
+returns-then-not-in_range c =
+    let f : SFits w32 c.args.row.sample.setpoint = search rules in
+    let g : SFits w32 c.args.row.sample.actual = search rules in
+    elim c.then-not-in_range.branch [
+      | then-not-in_range-via-then-not-in_range w ↦ rw (ranged _ f c.in_range.ensures w.if-not-in_range.true)
+      | then-not-in_range-via-else-not-in_range+then-not-in_range-2 w ↦ rw (
+        ranged _ f c.in_range.ensures w.if-not-in_range.false,
+        ranged _ g w.in_range-else-not-in_range.ensures w.if-not-in_range-2.true,
+      )
+    ]
 
-pub returns-then-not-in_range-2 : goal.returns-then-not-in_range-2
+pub returns-in_err-sorted_refusal : goal.returns-in_err-sorted_refusal
 unfolding row_refusal
-returns-then-not-in_range-2 c = rw (sym (told-setpoint (goal.at.returns-then-not-in_range-2 c).After-in_range) ∙ c.if-not-in_range.false, sym (told-actual (goal.at.returns-then-not-in_range-2 c).After-in_range-2) ∙ c.if-not-in_range-2.true)
-
-pub returns-then-number-ne0 : goal.returns-then-number-ne0
-unfolding row_refusal
-returns-then-number-ne0 c =
+returns-in_err-sorted_refusal c =
+    let f : SFits w32 c.args.row.sample.setpoint = search rules in
+    let g : SFits w32 c.args.row.sample.actual = search rules in
     rw (
-      sym (told-setpoint (goal.at.returns-then-number-ne0 c).After-in_range) ∙ c.if-not-in_range.false,
-      sym (told-actual (goal.at.returns-then-number-ne0 c).After-in_range-2) ∙ c.if-not-in_range-2.false,
-      ← c.sorted_refusal-refusal.ensures,
-      ← c.number.ensures,
-      ne_eqb _ _ c.if-number-ne0.true,
-    )
+      ranged _ f c.in_range.ensures c.if-not-in_range.false,
+      ranged _ g c.in_range-else-not-in_range.ensures c.if-not-in_range-2.false,
+      ← c.sorted_refusal.ensures,
+      c.in_err-sorted_refusal.was,
+      err-refused c.in_err-sorted_refusal.field-0.0,
+    ) (search rules)
 
 pub returns-then-is_earlier : goal.returns-then-is_earlier
 unfolding row_refusal
 returns-then-is_earlier c =
-    let at-if3 = c in
-    let at-number = at-if3 in
-    let at-sorted-refusal = at-number in
-    let at-if2 = at-sorted-refusal in
-    let at-if1 = at-if2 in
+    let f : SFits w32 c.args.row.sample.setpoint = search rules in
+    let g : SFits w32 c.args.row.sample.actual = search rules in
+    let h : SFits w32 c.args.row.second = search rules in
     rw (
-      sym (told-setpoint (goal.at.returns-then-is_earlier c).After-in_range) ∙ at-if1.if-not-in_range.false,
-      sym (told-actual (goal.at.returns-then-is_earlier c).After-in_range-2) ∙ at-if2.if-not-in_range-2.false,
-      ← at-sorted-refusal.sorted_refusal-refusal.ensures,
-      ← at-number.number.ensures,
-      eq-eqb _ _ at-if3.if-number-ne0.false,
-      sym (told-earlier (goal.at.returns-then-is_earlier c).After-is_earlier) ∙ c.if-is_earlier.true,
+      ranged _ f c.in_range.ensures c.if-not-in_range.false,
+      ranged _ g c.in_range-else-not-in_range.ensures c.if-not-in_range-2.false,
+      ← c.in_ok-sorted_refusal.ensures,
+      later c.args.self.before _ h c.is_earlier.ensures c.if-is_earlier.true,
     )
 
 pub returns : goal.returns
 unfolding row_refusal
 returns c =
-    let at-if3 = c in
-    let at-number = at-if3 in
-    let at-sorted-refusal = at-number in
-    let at-if2 = at-sorted-refusal in
-    let at-if1 = at-if2 in
+    let f : SFits w32 c.args.row.sample.setpoint = search rules in
+    let g : SFits w32 c.args.row.sample.actual = search rules in
+    let h : SFits w32 c.args.row.second = search rules in
     rw (
-      sym (told-setpoint (goal.at.returns c).After-in_range) ∙ at-if1.if-not-in_range.false,
-      sym (told-actual (goal.at.returns c).After-in_range-2) ∙ at-if2.if-not-in_range-2.false,
-      ← at-sorted-refusal.sorted_refusal-refusal.ensures,
-      ← at-number.number.ensures,
-      eq-eqb _ _ at-if3.if-number-ne0.false,
-      sym (told-earlier (goal.at.returns c).After-is_earlier) ∙ c.if-is_earlier.false,
+      ranged _ f c.in_range.ensures c.if-not-in_range.false,
+      ranged _ g c.in_range-else-not-in_range.ensures c.if-not-in_range-2.false,
+      ← c.in_ok-sorted_refusal.ensures,
+      later c.args.self.before _ h c.is_earlier.ensures c.if-is_earlier.false,
     )

@@ -1,35 +1,17 @@
 -- `mending::mender::Mender::sorted_row` meets its contract. Assumes nothing.
-use Rattle.vocabulary.proofs.RefusalLaws.{none-refused}
-use Rattle.mending.proofs.TurnLaws.{as-turn, printed, refuses, goes_on_lem, sorted_none}
+use Rattle.std.proofs.Common.{sym, ap, arith}
+use Rattle.vocabulary.specs.Refusals.{accepted}
 use Rattle.mending.specs.Mender.{sorted_turn}
-use Rattle.std.proofs.Common.{arith, rules}
+use Rattle.mending.proofs.TurnLaws.{as-turn, printed, refuses, goes_on, sorted_none}
 use Rattle.mending.proofs.mender.Mender.sorted_row.Goals as goal
 
-pub returns-then-number-ne0 : goal.returns-then-number-ne0
-unfolding sorted_turn
-returns-then-number-ne0 c =
-    let at-refused = c in
-    let at-if1 = at-refused in
-    let at-number = at-if1 in
-    let at-row-refusal = at-number in
-    let start = at-row-refusal in
-    as-turn (refuses at-number.number.ensures at-row-refusal.row_refusal-refusal.ensures start.args.self start.args.number _ at-if1.if-number-ne0.true) at-refused.refused.ensures
+pub put_sorted-requires : goal.put_sorted-requires
+put_sorted-requires c = sorted_none c.args.self c.args.sorted c.args.row (ap accepted (sym c.in-Ok.ensures))
 
-pub put_sorted-next-requires : goal.put_sorted-next-requires
-put_sorted-next-requires c =
-    let at-if1 = c in
-    let at-number = at-if1 in
-    let at-row-refusal = at-number in
-    let start = at-row-refusal in
-    sorted_none start.args.self start.args.sorted start.args.row (none-refused at-number.number.ensures at-row-refusal.row_refusal-refusal.ensures at-if1.if-number-ne0.false)
-
-pub returns : goal.returns
+pub returns-in-Ok : goal.returns-in-Ok
 unfolding sorted_turn
-returns c =
-    let at-put-sorted = c in
-    let at-if1 = at-put-sorted in
-    let at-number = at-if1 in
-    let at-row-refusal = at-number in
-    let start = at-row-refusal in
-    as-turn (goes_on_lem at-number.number.ensures at-row-refusal.row_refusal-refusal.ensures start.args.self start.args.number _ at-if1.if-number-ne0.false)
-    (printed _ (omega arith) c.with_row.ensures at-put-sorted.put_sorted-next.ensures)
+returns-in-Ok c = as-turn (goes_on c.args.self c.args.number _ c.in-Ok.ensures) (printed _ (omega arith) c.with_row.ensures c.put_sorted.ensures)
+
+pub returns-in-Err : goal.returns-in-Err
+unfolding sorted_turn
+returns-in-Err c = as-turn (refuses c.args.self c.args.number _ c.in-Err.ensures) c.refused.ensures

@@ -1,32 +1,27 @@
 -- `settlement::bare::Bare::take` meets its contract.
 -- Assumes nothing.
-use Rattle.std.proofs.Common.{rules}
-use mathlib.Core.Path.{sym, ◌∙◌}
-use borrow.Author.Tests.{eq-eqb, ne_eqb}
+use Rattle.std.proofs.Common.{ap, ◌∙◌, ◌≡◌, Ok}
+use Rattle.vocabulary.proofs.RefusalLaws.{accepted-err}
+use Rattle.vocabulary.proofs.Answers.{accepted-none}
+use Rattle.vocabulary.specs.Refusals.{number_of}
 use Rattle.records.specs.Tape.{rewound}
 use Rattle.settlement.specs.Run.{taken_of, take_ground, settled_of, quarter_in}
 use Rattle.settlement.proofs.bare.Bare.take.Goals as goal
 
-pub returns-then-number-ne0 : goal.returns-then-number-ne0
+pub returns-then-is_err : goal.returns-then-is_err
 unfolding taken_of take_ground
-returns-then-number-ne0 c =
-    let i = c in
-    let n = i.number in
-    let r = i in
-    let e = rw r.samples_of-samples.ensures.0 at r.take_refusal-refusal.ensures.0 in
-    rw (← e, ← n.ensures, ne_eqb n.result 0 i.if-number-ne0.true, c.no_sheets.ensures)
+returns-then-is_err c =
+    let e = rw c.samples_of-samples.ensures.0 at c.take_refusal-refusal.ensures.0 in
+    rw (← e, accepted-err c.take_refusal-refusal.result, ← c.is_err.ensures.value, c.if-is_err.true, c.no_sheets.ensures)
 
 pub after-requires : goal.after-requires
 after-requires c =
-    let i = c in
-    i.take_refusal-refusal.ensures.1 (sym i.number.ensures ∙ i.if-number-ne0.false)
+    let r = c.take_refusal-refusal.result in
+    let none : r ≡ Ok tt = accepted-none r (accepted-err r ∙ rw (← c.is_err.ensures.value, c.if-is_err.false)) in
+    c.take_refusal-refusal.ensures.1 (ap number_of none)
 
 pub returns : goal.returns
 unfolding taken_of take_ground settled_of quarter_in rewound
 returns c =
-    let s = c in
-    let i = s in
-    let n = i.number in
-    let r = i in
-    let e = rw r.samples_of-samples.ensures.0 at r.take_refusal-refusal.ensures.0 in
-    rw (← e, ← n.ensures, eq-eqb n.result 0 i.if-number-ne0.false, c.after.ensures, s.settled-quarter.ensures)
+    let e = rw c.samples_of-samples.ensures.0 at c.take_refusal-refusal.ensures.0 in
+    rw (← e, accepted-err c.take_refusal-refusal.result, ← c.is_err.ensures.value, c.if-is_err.false, c.after.ensures, c.settled-settled.ensures)

@@ -1,23 +1,17 @@
 -- `settlement::run::Run::bounds` meets its contract.
 -- Assumes nothing.
-use Rattle.std.proofs.Common.{rules}
-use borrow.Author.Tests.{eq-eqb, ne_eqb}
+use Rattle.vocabulary.proofs.RefusalLaws.{accepted-ok}
 use Rattle.settlement.specs.Run.{bounds_ground, with_bounds, with_bounds_of}
 use Rattle.settlement.proofs.run.Run.bounds.Goals as goal
 
-pub returns-then-number-eq0 : goal.returns-then-number-eq0
+pub returns-then-is_ok : goal.returns-then-is_ok
 unfolding bounds_ground with_bounds with_bounds_of
-returns-then-number-eq0 c =
-    let i = c in
-    let n = i.number in
-    let g = i in
-    let e = rw g.is_untouched.ensures at g.bounds_refusal-refusal.ensures in
-    rw (← e, ← n.ensures, eq-eqb n.result 0 i.if-number-eq0.true, c.begun_with-self.ensures, c.interval.ensures)
+returns-then-is_ok c =
+    let e = rw c.is_untouched.ensures at c.bounds_refusal-refusal.ensures in
+    rw (← e, accepted-ok c.bounds_refusal-refusal.result, ← c.is_ok.ensures.value, c.if-is_ok.true, c.begun_with-self.ensures, c.interval.ensures)
 
-pub returns-else-number-eq0 : goal.returns-else-number-eq0
+pub returns-else-is_ok : goal.returns-else-is_ok
 unfolding bounds_ground with_bounds_of
-returns-else-number-eq0 c =
-    let n = c.number in
-    let g = c in
-    let e = rw g.is_untouched.ensures at g.bounds_refusal-refusal.ensures in
-    rw (← e, ← n.ensures, ne_eqb n.result 0 c.if-number-eq0.false)
+returns-else-is_ok c =
+    let e = rw c.is_untouched.ensures at c.bounds_refusal-refusal.ensures in
+    rw (← e, accepted-ok c.bounds_refusal-refusal.result, ← c.is_ok.ensures.value, c.if-is_ok.false)

@@ -1,8 +1,6 @@
 -- `settlement::run::Run::contract_wrong` meets its contract.
 -- Assumes nothing.
-use Rattle.std.proofs.Common.{rules}
-use mathlib.Core.Path.{sym, ◌∙◌}
-use borrow.Author.Tests.{not-true, not-false}
+use Rattle.std.proofs.Common.{sym, ◌∙◌}
 use Rattle.settlement.specs.Run.{contract_wrong}
 use Rattle.settlement.proofs.run.Run.contract_wrong.Goals as goal
 
@@ -12,6 +10,4 @@ returns-then-not-before_samples c = rw (sym c.before_samples.ensures ∙ c.if-no
 
 pub returns : goal.returns
 unfolding contract_wrong
-returns c =
-    let m = c in
-    rw (sym m.before_samples.ensures ∙ m.if-not-before_samples.false, c.refusal.ensures)
+returns c = rw (sym c.before_samples.ensures ∙ c.if-not-before_samples.false, c.refusal.ensures)

@@ -1,6 +1,5 @@
 -- `settlement::run::Run::room` meets its contract.
 -- Assumes nothing.
-use Rattle.std.proofs.Common.{rules}
 use Rattle.settlement.proofs.run.Run.room.Goals as goal
 
 pub returns : goal.returns

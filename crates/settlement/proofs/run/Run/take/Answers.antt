@@ -1,6 +1,5 @@
 -- `settlement::run::Run::take` meets its contract: what is taken without the powers of the samples, with these again.
 -- Assumes nothing.
-use Rattle.std.proofs.Common.{rules}
 use mathlib.Core.Path.{◌≡◌, ap, ◌∙◌}
 use Rattle.settlement.specs.Bare.{whole_of, bare_taken_of}
 use Rattle.settlement.specs.Run.{taken_of}
@@ -21,8 +20,5 @@ with-powers run e = ap (answered run) e ∙ ap (λ (r : Run). record { run = r; 
 pub returns : goal.returns
 unfolding answered
 returns c =
-    let at_take = c in
-    let at-bared = at_take in
-    let run = at-bared.args.self in
-    let taken = rw at-bared.bared.ensures at at_take.take-taken.ensures in
-    rw c.whole.ensures (with-powers run taken)
+    let taken = rw c.bared.ensures at c.take-taken.ensures in
+    rw c.whole.ensures (with-powers c.args.self taken)
