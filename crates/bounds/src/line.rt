@@ -76,6 +76,7 @@ fn bounded(
 }
 
 // Whether the first n setpoints of a line are one and the same. Then each window over them shows that one, as on days when nothing is asked for, for hours.
+// No `all`: it was tried, and what it says of each setpoint was not found in it.
 fn is_flat(line: &[i32], n: usize) -> bool
     requires { n ≤ length line.now }
     ensures { result ≡ true → Flat line.now n }

@@ -26,7 +26,6 @@ ghost use Rattle.std.specs.Prelude.{◌≡◌, ◌≤◌, length};
 
 use arithmetic::money::Cents;
 use arithmetic::power::Units;
-use channel::Channel;
 use quarter::sheet::{Sheets, no_sheets};
 use settlement::run::{Answer, Run, Taken};
 use sheets::{BUFFER, print_block, print_head, print_quarter, print_refusal, print_total};
@@ -114,30 +113,12 @@ fn repeated(rt: &impl Print, run: Run, at: u64, line: &[u8]) -> Run {
     last.run
 }
 
-fn show_total(
-    rt: &impl Print,
-    at: u64,
-    ruling: Result<(), Refusal>,
-    quarters: u8,
-    fees: Cents,
-    penalties: Cents,
-) {
-    answer::answered(rt, at, ruling);
-    let mut out = [b'.'; BUFFER];
-    let printed = print_total(&mut out, quarters, fees, penalties);
-    answer::showed(rt, printed, out);
-}
-
 fn end(rt: &impl Print, run: Run, at: u64) -> Run {
     let ended = run.end();
-    show_total(
-        rt,
-        at,
-        ended.refusal,
-        ended.quarters,
-        ended.fees,
-        ended.penalties,
-    );
+    answer::answered(rt, at, ended.refusal);
+    let mut out = [b'.'; BUFFER];
+    let printed = print_total(&mut out, ended.quarters, ended.fees, ended.penalties);
+    answer::showed(rt, printed, &out);
     ended.run
 }
 
@@ -152,15 +133,15 @@ fn heading(rt: &impl Print, run: Run, at: u64) {
     let printed = print_head(&mut out, heading.date, heading.interval, heading.lot);
     let above = contracts_in(run, Direction::Positive);
     answer::counted_both(rt, at, above, contracts_in(run, Direction::Negative));
-    answer::showed(rt, printed, out);
+    answer::showed(rt, printed, &out);
 }
 
 // What the taking of a quarter hour answered.
-fn show_taken(rt: &impl Print, at: u64, ruling: Result<(), Refusal>, quarter: u8, sheets: Sheets) {
-    answer::answered(rt, at, ruling);
+fn show_taken(rt: &impl Print, at: u64, taken: Taken) {
+    answer::answered(rt, at, taken.refusal);
     let mut out = [b'.'; BUFFER];
-    let printed = print_quarter(&mut out, quarter, sheets);
-    answer::showed(rt, printed, out);
+    let printed = print_quarter(&mut out, taken.quarter, taken.sheets);
+    answer::showed(rt, printed, &out);
 }
 
 // The printing calls whose numbers all stand in the line.
@@ -218,16 +199,12 @@ fn print_sheets(rt: &impl Print, sheets: Sheets, at: u64, line: &[u8]) {
 }
 
 // The block that a run hands on, once it can be ended; before that no byte is printed.
-fn print_past(rt: &impl Print, past: Channel, ruling: Result<(), Refusal>, at: u64, line: &[u8]) {
-    match ruling {
-        Ok(()) => print_lent(rt, at, line, |out| print_block(out, past)),
-        Err(refusal) => not_printed(rt, at, refusal, line),
-    }
-}
-
 fn block(rt: &impl Print, run: Run, at: u64, line: &[u8]) {
     let ended = run.end();
-    print_past(rt, ended.past, ended.refusal, at, line);
+    match ended.refusal {
+        Ok(()) => print_lent(rt, at, line, |out| print_block(out, ended.past)),
+        Err(refusal) => not_printed(rt, at, refusal, line),
+    }
 }
 
 // The call of a line, which is the `at`-th of the script. What is held from call to call is what the last taking answered, with the run at hand in it;
@@ -242,7 +219,7 @@ fn called(rt: &impl Print, mut held: Taken, at: u64, line: &[u8]) -> Taken {
         b'B' | b'S' => held.run = repeated(rt, held.run, at, line),
         b'K' => {
             held = held.run.take();
-            show_taken(rt, at, held.refusal, held.quarter, held.sheets);
+            show_taken(rt, at, held);
         }
         b'E' => held.run = end(rt, held.run, at),
         b'H' => heading(rt, held.run, at),
@@ -266,6 +243,7 @@ fn line_end(script: &[u8], from: usize) -> usize
 }
 
 // Before the first opening there is no run, and its taking has nothing in it.
+// no `split`: what stands after the last line end is no line
 fn play(rt: &impl Print, script: &[u8]) {
     let mut held = Run::unopened().take();
     let mut at: u64 = 0;
@@ -279,6 +257,7 @@ fn play(rt: &impl Print, script: &[u8]) {
 }
 
 // Reads until the block is full or the input has ended; answers how many bytes came. A read that fails ends it too.
+// no `read_exact`: it does not say how many bytes came
 fn read_full(input: &mut impl Read, block: &mut [u8]) -> usize
     ensures { result ≤ length block.new }
 {

@@ -6,11 +6,12 @@ use arithmetic::date::Date;
 use arithmetic::whole::{negative_part, positive_part};
 use fields::number::long_number_of;
 use fields::split::split_of;
+use settlement::plan::interval_of;
 use vocabulary::direction::Direction;
 use vocabulary::interval::Interval;
 use vocabulary::refusal::Refusal;
 
-// What a number of a refusal stands for.
+// What a number of a refusal stands for. Searched by the number, so that the order here says nothing.
 const REFUSALS: [Refusal; 22] = [
     Refusal::WrongMoment,
     Refusal::BadInterval,
@@ -85,11 +86,7 @@ pub(crate) fn direction(line: &[u8], k: usize) -> Direction {
 }
 
 pub(crate) fn interval(line: &[u8], k: usize) -> Interval {
-    match count(line, k, 4) {
-        1 => Interval::One,
-        3 => Interval::Three,
-        _ => Interval::Four,
-    }
+    interval_of(count(line, k, 4) as u32)
 }
 
 // The refusal with a number, if there is one.

@@ -1,9 +1,9 @@
-// The checking program: standard input to standard output. Here blocks are read and fed to the reader, and the one line that it prints is written out.
+// The checking program: standard input to standard output. `stream` reads the blocks and writes the one line out.
 #![tactic(auto)]
 
 ghost use Rattle.checking.specs.Checker.{stopped_at};
 
-use judging::kept::Kept;
+use judging::kept::{Kept, Lists};
 use sharefeed::Reader;
 use stream::{Blocks, Part};
 use vocabulary::refusal::Refusal;
@@ -11,6 +11,7 @@ use vocabulary::refusal::Refusal;
 // The directions of 100 quarter hours, each with 32 contracts at most.
 const ROWS: usize = 200;
 
+// A U line for each contract of each row.
 const SHARES: usize = 6_400;
 
 // The reader, and the lists that it is lent: it is lent them in each call anew, since a function that lends all three is not proved today.
@@ -49,12 +50,12 @@ impl Blocks for Checking {
     }
 
     fn finish(&mut self, out: &mut [u8]) -> Result<usize, Refusal> {
-        let kept = Kept {
-            gaps: &mut self.gaps,
-            surpluses: &mut self.surpluses,
-            shares: &mut self.shares,
+        let lists = Lists {
+            gaps: &self.gaps,
+            surpluses: &self.surpluses,
+            shares: &self.shares,
         };
-        self.reader.finish(&kept, out)
+        self.reader.finish(lists, out)
     }
 
     ghost at_end = { λ checking. tt };
@@ -63,7 +64,7 @@ impl Blocks for Checking {
 }
 
 fn main(rt: HostRuntime) {
-    let mut out = [0u8; 128];
+    let mut out = [0u8; 128]; // room for its one line
     let mut checking = Checking {
         reader: Reader::new(),
         gaps: [[0u32; 32]; ROWS],

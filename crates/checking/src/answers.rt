@@ -1,8 +1,8 @@
-// What the run answers to a line. A refused call hands back the run that came in, so that one path serves for both.
+// What the run answers to a line, and which line opens one.
 ghost use Rattle.std.specs.Prelude.{◌≡◌};
 ghost use Rattle.reading.specs.Share.{asked_of};
 ghost use Rattle.checking.specs.Checker.{late_ground};
-ghost use Rattle.checking.specs.Answers.{opening_line, opening_of, answering, line_answer, answer_to};
+ghost use Rattle.checking.specs.Answers.{opening_line, opening_of, line_answer, answer_to};
 
 use judging::wanted::early_refusal;
 use reading::share::{Asked, read_asked, whose};
@@ -40,23 +40,27 @@ pub(crate) fn opens(line: &[u8]) -> Result<Header, Refusal>
     }
 }
 
-fn answered(run: Run, refusal: Result<(), Refusal>) -> Answer
-    ensures { result ≡ answering run refusal }
-{
-    Answer { run, refusal }
-}
-
+// As `asked` of the desk but for a header and the end.
 fn line_answer(run: Run, said: Line, line: &[u8]) -> Answer
     ensures { result ≡ line_answer run line.now said }
 {
     match said {
-        Line::Header(_) => answered(run, Err(Refusal::WrongMoment)),
+        Line::Header(_) => Answer {
+            run,
+            refusal: Err(Refusal::WrongMoment),
+        },
         Line::Bounds(bounds) => run.bounds(bounds),
         Line::Setpoint(setpoint) => run.setpoint(setpoint),
         Line::Contract(contract) => run.contract(contract, identifier(line)),
         Line::Sample(sample) => run.sample(sample),
-        Line::End => answered(run, run.end().refusal),
-        Line::Malformed => answered(run, Err(Refusal::BadLine)),
+        Line::End => Answer {
+            run,
+            refusal: run.end().refusal,
+        },
+        Line::Malformed => Answer {
+            run,
+            refusal: Err(Refusal::BadLine),
+        },
     }
 }
 
@@ -66,6 +70,9 @@ pub(crate) fn answer_to(run: Run, asked: Asked, line: &[u8]) -> Answer
 {
     match asked {
         Asked::Settling(said) => line_answer(run, said, line),
-        Asked::Share(_) => answered(run, early_refusal(run, whose(line))),
+        Asked::Share(_) => Answer {
+            run,
+            refusal: early_refusal(run, whose(line)),
+        },
     }
 }

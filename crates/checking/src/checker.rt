@@ -1,14 +1,14 @@
 // The checker takes the lines of an input one after the other, as the desk of the settling program does, and then its U lines. It prints one line, at the end.
 ghost use Rattle.std.specs.Prelude.{◌≡◌, ℕ, ◌^◌, ◌<◌, IfOk};
 ghost use Rattle.reading.specs.Share.{asked_of};
-ghost use Rattle.judging.specs.Kept.{kept_in, SameLists};
+ghost use Rattle.judging.specs.Kept.{kept_in, lists_in, SameLists};
 ghost use Rattle.checking.specs.Checker.{checker_at, standing, unless, empty_checker, quarter_turn, first_by, next_turn, later_turn, turn_at, line_turn};
 ghost use Rattle.checking.specs.Checker.{stopped_at, Told, ruled_text, finish_text};
 ghost use Rattle.checking.specs.Answers.{followed, late_share, ending_of};
 
 use crate::answers::{answer_to, opens, out_of_place};
 use judging::judged::judged;
-use judging::kept::Kept;
+use judging::kept::{Kept, Lists};
 use judging::wanted::{share_refusal, wanted};
 use reading::Line;
 use reading::share::{Asked, read_asked, whose};
@@ -25,6 +25,7 @@ pub struct Fault {
 }
 
 // Before the header; while the run is open; after E, with the number of U lines so far; after a refusal, when nothing is read any more.
+// A stage of its own: after E it counts U lines, and a refusal is kept for the end.
 #[derive(Clone, Copy)]
 pub enum Stage {
     Empty,
@@ -174,24 +175,30 @@ impl Checker {
     }
 
     // After E, where so many U lines came: is one missing, or what is the verdict?
-    fn ruled(self, number: u64, given: usize, kept: &Kept, out: &mut [u8]) -> Result<usize, Refusal>
-        ensures { Told out.old (ruled_text self.run (kept_in kept.now) number given) result out.new }
+    fn ruled(
+        self,
+        number: u64,
+        given: usize,
+        lists: Lists,
+        out: &mut [u8],
+    ) -> Result<usize, Refusal>
+        ensures { Told out.old (ruled_text self.run (lists_in lists.entry) number given) result out.new }
     {
         let books = self.run.books();
         let quarters = self.run.end().quarters;
         if wanted(books, quarters) != given {
             return print_refusal(out, number, Err(Refusal::MisplacedShare));
         }
-        print_verdict(out, judged(books, quarters, kept))
+        print_verdict(out, judged(books, quarters, lists))
     }
 
     // The input ended, after so many complete lines: what is printed.
-    pub fn finish(self, count: u64, kept: &Kept, out: &mut [u8]) -> Result<usize, Refusal>
-        ensures { Told out.old (finish_text (standing self (kept_in kept.now)) count) result out.new }
+    pub fn finish(self, count: u64, lists: Lists, out: &mut [u8]) -> Result<usize, Refusal>
+        ensures { Told out.old (finish_text (standing self (lists_in lists.entry)) count) result out.new }
     {
         let number = count.wrapping_add(1);
         match end_at(self.stage, number) {
-            Ok(given) => self.ruled(number, given, kept, out),
+            Ok(given) => self.ruled(number, given, lists, out),
             Err(fault) => print_refusal(out, fault.line, Err(fault.refusal)),
         }
     }

@@ -3,4 +3,4 @@
 #![tactic(auto)]
 
 pub mod checker; // Checker: the lines one after the other, and the verdict at the end
-mod answers; // what the run answers to a line, and what follows
+mod answers; // what opens a run, and what it answers to a line

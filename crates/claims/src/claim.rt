@@ -47,23 +47,6 @@ impl Claim {
     }
 }
 
-// What stands in places that have no contract.
-fn no_claims() -> [Claim; 32]
-    ensures { result ≡ no_claims }
-{
-    let none = Kwh(0);
-    let nothing = Claim {
-        setpoint: none,
-        actual: none,
-        acceptance: none,
-        shortfall: none,
-        under_delivery: none,
-        capped: none,
-        gap: none,
-    };
-    [nothing; 32]
-}
-
 // The claims by the energies of the first `count` contracts.
 // Five arrays and a count stay: a contract's claim is made at one place of all of them, and the definition takes them so.
 pub(crate) fn joined(
@@ -77,7 +60,8 @@ pub(crate) fn joined(
     requires { count ≤ 32 }
     ensures { result ≡ joined_of actuals acceptances floors shortfalls (take count setpoints) ++ drop count no_claims }
 {
-    let mut out = no_claims();
+    let none = Kwh(0);
+    let mut out = [Claim::of(none, none, none, none, none); 32]; // what stands in places that have no contract
     for k in 0..count {
         out[k] = Claim::of(
             setpoints[k],

@@ -108,7 +108,7 @@ fn energy_held(sum: u64, seconds: u64) -> Kwh
     energy(seconds * sum)
 }
 
-// The energy of each sum. No `map`: each sum needs its own bound.
+// The energy of each sum. No `map`: each sum needs its own bound; it was tried, and the proof did not close.
 fn energies(sums: [u64; 32], seconds: u64) -> [Kwh; 32]
     requires { (k : ℕ) → seconds * slice_index sums k < 2 ^ 64 }
     ensures { result ≡ each (energy_held seconds) sums }

@@ -134,7 +134,7 @@ pub fn measure(
     let n = windows.samples;
     let mut ogas = [0i64; 900];
     let mut ugas = [0i64; 900];
-    let after = channel.sized().along(setpoints, n, &mut ogas, &mut ugas);
+    let after = channel.along(setpoints, n, &mut ogas, &mut ugas);
     let samples = Samples {
         setpoints: &setpoints[..n],
         actuals: &actuals[..n],

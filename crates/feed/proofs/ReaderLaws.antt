@@ -5,7 +5,7 @@ use mathlib.Core.Bool.{Bool, true, false, cond}
 use mathlib.Core.List.{List, [], ◌∷◌}
 use native.Mathlib.Omega.{arith}
 use native.Mathlib.Nat.{add-zero}
-use borrow.Author.Tests.{le-ltb, lt-ltb, le-leb, ltb-true, ltb-false}
+use borrow.Author.Tests.{le-leb, ltb-true, ltb-false}
 use lib.Dec.{leb, ltb}
 use lib.ListN.{length, take, drop, length-drop, drop_of_length-le}
 use lib.Seq.{drop-drop, sets}
@@ -45,10 +45,12 @@ use Rattle.text.specs.Desk.{Turn, Tells, answer_of, desk_at, line_turn, finish_t
 use Rattle.text.specs.declared.desk.Desk.{Desk}
 use Rattle.text.specs.declared.desk.Told.{Told}
 use Rattle.feed.specs.Reader.{closed_of, feed_of, finish_of, reader_of, unfed_of, fed_of, Yields}
-use Rattle.feed.specs.Steps.{reader_with, desk_with, Finds, line_found, after_of, turn_by, Steps, Left, left_by, Moves, goes_on, Reads, fed_by, ended_by}
+use Rattle.feed.specs.Steps.{reader_with, desk_with, Stretches, Finds, line_found, is_stretch, following, after_of, turn_for, turn_by, Steps, Left, left_by, Moves, goes_on, Reads, fed_by, ended_by}
 use Rattle.feed.specs.declared.Reader.{Reader}
 use Rattle.feed.specs.declared.BareDesk.{BareDesk}
 use Rattle.feed.specs.declared.Stepped.{Stepped}
+use Rattle.feed.specs.declared.Piece.{Piece}
+use Rattle.feed.specs.declared.Piece.TheVariants.{Samples, Line, Part}
 use Rattle.feed.specs.declared.Found.{Found}
 use Rattle.feed.specs.declared.Fed.{Fed}
 use Rattle.feed.proofs.DeskLaws.{sample_line, says, quietly, open-there, room_most, room_within, ranged, put-there, quarter-whole}
@@ -182,7 +184,7 @@ module _ (reader : Reader) (block : List ℕ) (at : ℕ) (out : List ℕ) (o : c
 
   -- either
   abbrev left-with : Told → Bool → Left
-  left-with told b = record { gatherer = cond b (fresh_of part.gatherer) part.gatherer; desk = told.desk; used = part.used; printed = length_of told.printed }
+  left-with told b = record { gatherer = following part.gatherer (cond b Line Part); desk = told.desk; used = part.used; printed = length_of told.printed }
 
   by-complete : {told : Told} {out' : List ℕ} (b : Bool) → part.complete ≡ b → Told-whole out (cond b turn (quiet reader.desk)) told out' → Moves reader block at out (left-with told b) out'
   by-complete true e t = line-of-block e t
@@ -280,9 +282,13 @@ module _ (reader : Reader) (block : List ℕ) (at : ℕ) (out : List ℕ) (h : a
 
 -- ---- WHAT STANDS NEXT
 
+no-stretch : (b : Bool) {n : ℕ} {A : Type 0} → cond b Line Part ≡ Samples n → A
+no-stretch true e = true-false (ap is_stretch e) refl
+no-stretch false e = true-false (ap is_stretch e) refl
+
 pub found-line : {g : Gatherer} {block : List ℕ} {at filled room : ℕ} {sp ac sp' ac' : List ℤ} {r : Found} → r ≡ line_found (gathered_of g (drop at block)) → sp' ≡ sp → ac' ≡ ac
     → Finds g block at filled room sp ac sp' ac' r
-found-line q s a = record { line = λ e. (q, (s, a)); stretch = λ p. absurd (omega (arith, p, ap (λ (f : Found). f.samples) q)) }
+found-line q s a = record { line = λ e. (q, (s, a)); stretch = λ n e. no-stretch _ (sym (ap (λ (f : Found). f.piece) q) ∙ e) }
 
 -- where there is no sample, no place of the arrays was written
 pub same-arrays : {lines : List (List ℕ)} {filled most : ℕ} {sp ac sp' ac' : List ℤ} {read : Stretch} → series.Reads lines filled most sp ac sp' ac' read → read.samples ≡ 0
@@ -296,28 +302,28 @@ same-arrays {lines} {filled} {most} {sp} {ac} {sp'} {ac'} reads none = by-sample
 
 pub found-stretch : {g g' : Gatherer} {block : List ℕ} {at filled room : ℕ} {sp ac sp' ac' : List ℤ} {read : Stretch} → Start g
     → Stretched block at filled (filled + room) sp ac sp' ac' read → (read.samples ≡ 0 → ⊥) → g' ≡ past_of read.samples g
-    → Finds g block at filled room sp ac sp' ac' (record { gatherer = g'; used = read.bytes; samples = read.samples; complete = false })
-found-stretch start reads some gone = record { line = λ e. absurd (some e); stretch = λ p. record { start = start; reads = reads; past = gone; line_less = refl } }
+    → Finds g block at filled room sp ac sp' ac' (record { gatherer = g'; used = read.bytes; piece = Samples read.samples })
+found-stretch {g} {g'} {block} {at} {filled} {room} {sp} {ac} {sp'} {ac'} {read} start reads some gone =
+    record {
+      line = λ e. true-false refl e;
+      stretch = λ n e. subst (λ (k : ℕ). Stretches g block at filled room sp ac sp' ac' k (record { gatherer = g'; used = read.bytes; piece = Samples read.samples })) (ap samples-of e)
+          (record { some = omega (arith, above-zero read.samples some); start = start; reads = reads; past = gone });
+    }
+  where
+    samples-of : Piece → ℕ
+    samples-of (Samples n) = n
+    samples-of Line = 0
+    samples-of Part = 0
 
--- the gatherer after a line
-pub after_line : (f : Found) {g : Gatherer} → f.complete ≡ true → g ≡ fresh_of f.gatherer → g ≡ after_of f
-after_line f e q = q ∙ sym (ap (λ (b : Bool). cond b (fresh_of f.gatherer) f.gatherer) e)
+    above-zero : (n : ℕ) → (n ≡ 0 → ⊥) → 0 < n
+    above-zero zero h = absurd (h refl)
+    above-zero (suc n) h = omega arith
 
--- the desk's turn, by what was found
-module _ (d : BareDesk) (f : Found) (sp ac : List ℤ) where
-  abbrev by-kind : Bool → Bool → Turn
-  by-kind some complete =
-      cond some (quarter_turn (whole_of (with_more d.bare f.samples) sp ac))
-      (cond complete (line_turn (desk_with d sp ac) f.gatherer.count (held_by f.gatherer)) (quiet (desk_with d sp ac)))
-
-  pub turn-of-stretch : 0 < f.samples → quarter_turn (whole_of (with_more d.bare f.samples) sp ac) ≡ turn_by d f sp ac
-  turn-of-stretch h = sym (ap (λ (b : Bool). by-kind b f.complete) (lt-ltb 0 f.samples h))
-
-  pub turn-of-line : f.samples ≤ 0 → f.complete ≡ true → line_turn (desk_with d sp ac) f.gatherer.count (held_by f.gatherer) ≡ turn_by d f sp ac
-  turn-of-line h e = sym (ap (λ (b : Bool). by-kind b f.complete) (le-ltb 0 f.samples h) ∙ ap (by-kind false) e)
-
-  pub no-turn : f.samples ≤ 0 → f.complete ≡ false → quiet (desk_with d sp ac) ≡ turn_by d f sp ac
-  no-turn h e = sym (ap (λ (b : Bool). by-kind b f.complete) (le-ltb 0 f.samples h) ∙ ap (by-kind false) e)
+-- a line's turn, or none
+pub line-turn : (d : BareDesk) (g : Gatherer) (sp ac : List ℤ) (b : Bool)
+    → turn_for d g sp ac (cond b Line Part) ≡ cond b (line_turn (desk_with d sp ac) g.count (held_by g)) (quiet (desk_with d sp ac))
+line-turn d g sp ac true = refl
+line-turn d g sp ac false = refl
 
 -- another name of the turn
 pub as-steps : {out out' : List ℕ} {turn turn' : Turn} {r : Stepped} {sp ac : List ℤ} → turn ≡ turn' → Steps out turn r sp ac out' → Steps out turn' r sp ac out'
@@ -371,39 +377,45 @@ module _ (g : Gatherer) (d : BareDesk) (block : List ℕ) (at : ℕ) (out : List
   reader = reader_with g (desk_with d sp ac)
 
   -- there are places for all samples
-  pub samples-there : 0 < found.samples → d.bare.filled + found.samples ≤ 900
-  samples-there p =
-      let few = samples-fit reader block at out h there (finds.stretch p).reads in
-      omega (arith, few, room_within d.stage (whole_of d.bare sp ac), there)
+  pub samples-there : (n : ℕ) → found.piece ≡ Samples n → d.bare.filled + n ≤ 900
+  samples-there n e =
+      let s = finds.stretch n e in
+      let few = samples-fit reader block at out h there s.reads in
+      omega (arith, few, s.some, room_within d.stage (whole_of d.bare sp ac), there)
 
   -- samples whose powers were put in their places are those that the desk takes line by line
-  counted-are : (p : 0 < found.samples)
-      → quarter_turn (whole_of (with_more d.bare found.samples) sp' ac')
+  counted-are : (n : ℕ) → found.piece ≡ Samples n
+      → quarter_turn (whole_of (with_more d.bare n) sp' ac')
       ≡ samples_turn (desk_with d sp ac) (front_samples (most_of d.bare.filled (d.bare.filled + room) sp ac) (lines_at block at))
   unfolding samples_turn
-  counted-are p =
-      let reads = (finds.stretch p).reads in
-      let few : found.samples ≤ room_of (whole_of d.bare sp ac) = omega (arith, samples-fit reader block at out h there reads, there, room_most d.stage (whole_of d.bare sp ac)) in
+  counted-are n e =
+      let reads = (finds.stretch n e).reads in
+      let few : n ≤ room_of (whole_of d.bare sp ac) = omega (arith, samples-fit reader block at out h there reads, there, room_most d.stage (whole_of d.bare sp ac)) in
       ap quarter_turn (sym (put-there d.bare reads few))
 
   step_of : {r : Stepped} {sp'' ac'' : List ℤ} {out' : List ℕ} → Steps out (turn_by d found sp' ac') r sp'' ac'' out'
       → Moves reader block at out (record { gatherer = after_of found; desk = desk_with r.desk sp'' ac''; used = found.used; printed = r.printed }) out'
-  step_of {r} {sp''} {ac''} {out'} t = by-samples found.samples refl
+  step_of {r} {sp''} {ac''} {out'} t = by-piece found.piece refl
     where
       by : Found → Left
       by f = record { gatherer = after_of f; desk = desk_with r.desk sp'' ac''; used = f.used; printed = r.printed }
 
-      by-samples : (n : ℕ) → found.samples ≡ n → Moves reader block at out (by found) out'
-      by-samples zero e =
+      by-line : is_stretch found.piece ≡ false → Moves reader block at out (by found) out'
+      by-line e =
           let l = finds.line e in
+          let part : Gathered = gathered_of g (drop at block) in
           let same : turn_by d found sp' ac' ≡ turn_by d found sp ac = ap (λ (x : List ℤ). turn_by d found x ac') l.1.0 ∙ ap (λ (y : List ℤ). turn_by d found sp y) l.1.1 in
           subst (λ (f : Found). Steps out (turn_by d f sp ac) r sp'' ac'' out' → Moves reader block at out (by f) out') (sym l.0)
-          (λ s. line_step reader block at out o h (as-told s)) (as-steps same t)
-      by-samples (suc n) e =
-          let s = finds.stretch (omega arith) in
-          stretch-step reader block at out h there s.reads s.start (omega arith)
-          (ap (λ (b : Bool). cond b (fresh_of found.gatherer) found.gatherer) s.line_less ∙ s.past)
-          (as-told (as-steps (sym (turn-of-stretch d found sp' ac' (omega arith)) ∙ counted-are (omega arith)) t))
+          (λ s. line_step reader block at out o h (as-told (as-steps (line-turn d part.gatherer sp ac part.complete) s))) (as-steps same t)
+
+      by-piece : (k : Piece) → found.piece ≡ k → Moves reader block at out (by found) out'
+      by-piece (Samples n) e =
+          let s = finds.stretch n e in
+          stretch-step reader block at out h there s.reads s.start s.some
+          (ap (following found.gatherer) e ∙ s.past)
+          (as-told (as-steps (ap (turn_for d found.gatherer sp' ac') e ∙ counted-are n e) t))
+      by-piece Line e = by-line (ap is_stretch e)
+      by-piece Part e = by-line (ap is_stretch e)
 
   -- as the code comes by it
   pub one-step : {r : Stepped} {sp'' ac'' : List ℤ} {out' : List ℕ} {g' : Gatherer} → Steps out (turn_by d found sp' ac') r sp'' ac'' out' → g' ≡ after_of found

@@ -1,5 +1,5 @@
 -- The parts of a call, as the code has them: what stands next in a block, and what the desk makes of it. The powers of the samples lie beside the desk.
-use Rattle.std.specs.Prelude.{ℕ, ◌+◌, ◌≤◌, ◌<◌, ◌≡◌, Bool, false, cond, List, length, drop, ltb, ℤ, Ok}
+use Rattle.std.specs.Prelude.{ℕ, ◌+◌, ◌≤◌, ◌<◌, ◌≡◌, Bool, true, false, cond, List, length, drop, ltb, ℤ, Ok}
 use Rattle.lines.specs.Gathering.{fresh_of, past_of, gathered_of}
 use Rattle.lines.specs.Feed.{Start, on_turn}
 use Rattle.lines.specs.Handing.{held_by}
@@ -14,6 +14,8 @@ use Rattle.text.specs.declared.desk.Desk.{Desk}
 use Rattle.text.specs.declared.desk.Told.{Told}
 use Rattle.feed.specs.Reader.{feed_of, reader_of}
 use Rattle.feed.specs.declared.Reader.{Reader}
+use Rattle.feed.specs.declared.Piece.{Piece}
+use Rattle.feed.specs.declared.Piece.TheVariants.{Samples, Line, Part}
 use Rattle.feed.specs.declared.Found.{Found}
 use Rattle.feed.specs.declared.BareDesk.{BareDesk}
 use Rattle.feed.specs.declared.Stepped.{Stepped}
@@ -31,30 +33,43 @@ desk_with desk sp ac = record { run = whole_of desk.bare sp ac; stage = desk.sta
 
 -- a line, or a part of one
 abbrev pub line_found : Gathered → Found
-line_found part = record { gatherer = part.gatherer; used = part.used; samples = 0; complete = part.complete }
+line_found part = record { gatherer = part.gatherer; used = part.used; piece = cond part.complete Line Part }
 
 -- a stretch of samples, whose powers are put after those that count
-pub record Stretches (g : Gatherer) (block : List ℕ) (at filled room : ℕ) (sp ac sp' ac' : List ℤ) (r : Found) : Type 0 where
+pub record Stretches (g : Gatherer) (block : List ℕ) (at filled room : ℕ) (sp ac sp' ac' : List ℤ) (n : ℕ) (r : Found) : Type 0 where
+  pub some : 0 < n
   pub start : Start g
-  pub reads : Stretched block at filled (filled + room) sp ac sp' ac' (record { samples = r.samples; bytes = r.used })
-  pub past : r.gatherer ≡ past_of r.samples g
-  pub line_less : r.complete ≡ false
+  pub reads : Stretched block at filled (filled + room) sp ac sp' ac' (record { samples = n; bytes = r.used })
+  pub past : r.gatherer ≡ past_of n g
+
+abbrev pub is_stretch : Piece → Bool
+is_stretch (Samples n) = true
+is_stretch Line = false
+is_stretch Part = false
 
 pub record Finds (g : Gatherer) (block : List ℕ) (at filled room : ℕ) (sp ac sp' ac' : List ℤ) (r : Found) : Type 0 where
-  pub line : r.samples ≡ 0 → (r ≡ line_found (gathered_of g (drop at block))) × ((sp' ≡ sp) × (ac' ≡ ac))
-  pub stretch : 0 < r.samples → Stretches g block at filled room sp ac sp' ac' r
+  pub line : is_stretch r.piece ≡ false → (r ≡ line_found (gathered_of g (drop at block))) × ((sp' ≡ sp) × (ac' ≡ ac))
+  pub stretch : (n : ℕ) → r.piece ≡ Samples n → Stretches g block at filled room sp ac sp' ac' n r
 
 -- ---- what becomes of it
 
 -- the gatherer for what follows
+abbrev pub following : Gatherer → Piece → Gatherer
+following g (Samples n) = g
+following g Line = fresh_of g
+following g Part = g
+
 abbrev pub after_of : Found → Gatherer
-after_of f = cond f.complete (fresh_of f.gatherer) f.gatherer
+after_of f = following f.gatherer f.piece
 
 -- the desk's turn: samples, whose powers are in their places, or a line
+abbrev pub turn_for : BareDesk → Gatherer → List ℤ → List ℤ → Piece → Turn
+turn_for d g sp ac (Samples n) = quarter_turn (whole_of (with_more d.bare n) sp ac)
+turn_for d g sp ac Line = line_turn (desk_with d sp ac) g.count (held_by g)
+turn_for d g sp ac Part = quiet (desk_with d sp ac)
+
 abbrev pub turn_by : BareDesk → Found → List ℤ → List ℤ → Turn
-turn_by d f sp ac =
-    cond (ltb 0 f.samples) (quarter_turn (whole_of (with_more d.bare f.samples) sp ac))
-    (cond f.complete (line_turn (desk_with d sp ac) f.gatherer.count (held_by f.gatherer)) (quiet (desk_with d sp ac)))
+turn_by d f sp ac = turn_for d f.gatherer sp ac f.piece
 
 -- what it comes to: the desk, with the powers that lie beside it then, and what was printed
 pub record Steps (out : List ℕ) (turn : Turn) (r : Stepped) (sp ac : List ℤ) (out' : List ℕ) : Type 0 where

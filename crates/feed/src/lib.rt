@@ -2,15 +2,16 @@
 // every other line by the reader of single lines. No line's meaning depends on which of them read it.
 #![tactic(auto)]
 
-ghost use Rattle.std.specs.Prelude.{◌≡◌, List, ◌+◌, ◌-◌, ◌≤◌, ◌<◌, ℤ, length, take, drop};
+ghost use Rattle.std.specs.Prelude.{ℕ, ◌≡◌, List, ◌+◌, ◌-◌, ◌≤◌, ◌<◌, ℤ, length, take, drop};
 ghost use Rattle.lines.specs.Gathering.{gathered_of};
 ghost use Rattle.lines.specs.Handing.{held_by};
 ghost use Rattle.settlement.specs.Bare.{whole_of, with_more};
 ghost use Rattle.sheets.specs.Buffer.{buffer_length};
 ghost use Rattle.text.specs.Desk.{Tells, line_turn, quarter_turn, room_at};
+ghost use Rattle.feed.specs.declared.Piece.TheVariants.{Samples};
 ghost use Rattle.feed.specs.Reader.{empty_reader, feed_of, finish_of, Yields};
 ghost use Rattle.vocabulary.specs.Stage.{closed_at};
-ghost use Rattle.feed.specs.Steps.{reader_with, desk_with, line_found, Finds, turn_by, Steps, after_of, goes_on, left_of, Reads, fed_by, ended_by};
+ghost use Rattle.feed.specs.Steps.{reader_with, desk_with, line_found, Finds, turn_by, Steps, after_of, goes_on, left_of, Reads, fed_by};
 
 use lines::Gatherer;
 use samples::read_samples;
@@ -20,7 +21,7 @@ use text::desk::{Desk, Told, samples};
 use vocabulary::refusal::Refusal;
 use vocabulary::stage::Stage;
 
-// The line at hand, and the desk.
+// The line at hand, and the desk. Each of the three readers has a type of its own: promises name each.
 #[derive(Clone, Copy)]
 pub struct Reader {
     gatherer: Gatherer,
@@ -36,21 +37,39 @@ pub struct Fed {
     pub printed: Result<usize, Refusal>,
 }
 
-// What stands next in a block, and in how many bytes: a stretch of samples, a line with its end, or the rest of a block that ends within one. The
-// gatherer is the one after it, and of a line the one that holds it.
+// What stands next in a block: a stretch of so many samples, a line with its end, or the rest of a block that ends within one.
+#[derive(Clone, Copy)]
+enum Piece {
+    Samples(usize),
+    Line,
+    Part,
+}
+
+// And in how many bytes. The gatherer is the one after it, and of a line the one that holds it.
 #[derive(Clone, Copy)]
 struct Found {
     gatherer: Gatherer,
     used: usize,
-    samples: usize,
-    complete: bool,
+    piece: Piece,
 }
 
-// A desk while a block is read: the powers of its samples lie in two arrays beside it, so that it is handed on without them.
+// A desk while a block is read: the powers of its samples lie in two arrays beside it, as at `Bare`, so that it is handed on without them.
 #[derive(Clone, Copy)]
 struct BareDesk {
     bare: Bare,
     stage: Stage,
+}
+
+impl BareDesk {
+    // With the powers of its samples a desk again.
+    fn whole(self, setpoints: &[i32; 900], actuals: &[i32; 900]) -> Desk
+        ensures { result ≡ desk_with self setpoints.now actuals.now }
+    {
+        Desk {
+            run: self.bare.whole(setpoints, actuals),
+            stage: self.stage,
+        }
+    }
 }
 
 // The desk after a step, and how many bytes were printed.
@@ -87,8 +106,11 @@ fn line_at(gatherer: Gatherer, block: &[u8], at: usize) -> Found
     Found {
         gatherer: part.gatherer,
         used: part.used,
-        samples: 0,
-        complete: part.complete,
+        piece: if part.complete {
+            Piece::Line
+        } else {
+            Piece::Part
+        },
     }
 }
 
@@ -126,14 +148,13 @@ fn next(
     Found {
         gatherer: gatherer.past(read.samples as u64),
         used: read.bytes,
-        samples: read.samples,
-        complete: false,
+        piece: Piece::Samples(read.samples),
     }
 }
 
 // Samples more, of which the powers are in their places.
 fn counted(
-    bare: Bare,
+    mut bare: Bare,
     count: usize,
     setpoints: &[i32; 900],
     actuals: &[i32; 900],
@@ -144,9 +165,8 @@ fn counted(
     ensures { Steps out.old (quarter_turn (whole_of (with_more bare count) setpoints.now actuals.now)) result
         setpoints.now actuals.now out.new }
 {
-    let mut longer = bare;
-    longer.filled = bare.filled + count;
-    let told = samples(longer, setpoints, actuals, out);
+    bare.filled += count;
+    let told = samples(bare, setpoints, actuals, out);
     Stepped {
         desk: BareDesk {
             bare: told.bare,
@@ -168,11 +188,7 @@ fn served(
     ensures { Steps out.old (line_turn (desk_with desk setpoints.old actuals.old) gatherer.count (held_by gatherer)) result
         setpoints.new actuals.new out.new }
 {
-    let whole = Desk {
-        run: desk.bare.whole(setpoints, actuals),
-        stage: desk.stage,
-    };
-    let told = line_told(whole, gatherer, out);
+    let told = line_told(desk.whole(setpoints, actuals), gatherer, out);
     Stepped {
         desk: BareDesk {
             bare: told.desk.run.apart(setpoints, actuals),
@@ -190,29 +206,26 @@ fn told_of(
     actuals: &mut [i32; 900],
     out: &mut [u8],
 ) -> Stepped
-    requires samples_bound { 0 < found.samples → desk.bare.filled + found.samples ≤ 900 }
+    requires samples_bound { (n : ℕ) → found.piece ≡ Samples n → desk.bare.filled + n ≤ 900 }
     requires buffer_length_in_bounds { buffer_length ≤ length out.old }
     ensures { Steps out.old (turn_by desk found setpoints.old actuals.old) result
         setpoints.new actuals.new out.new }
 {
-    let n = found.samples;
-    if 0 < n {
-        return counted(desk.bare, n, setpoints, actuals, out);
+    match found.piece {
+        Piece::Samples(n) => counted(desk.bare, n, setpoints, actuals, out),
+        Piece::Line => served(desk, found.gatherer, setpoints, actuals, out),
+        Piece::Part => Stepped { desk, printed: 0 },
     }
-    if found.complete {
-        return served(desk, found.gatherer, setpoints, actuals, out);
-    }
-    Stepped { desk, printed: 0 }
 }
 
 // The gatherer for what follows it.
 fn after(found: Found) -> Gatherer
     ensures { result ≡ after_of found }
 {
-    if found.complete {
-        return found.gatherer.fresh();
+    match found.piece {
+        Piece::Line => found.gatherer.fresh(),
+        Piece::Samples(_) | Piece::Part => found.gatherer,
     }
-    found.gatherer
 }
 
 // Whether a call goes on: nothing is printed yet, the desk is open, and the block has not ended.
@@ -264,34 +277,17 @@ fn read_on(
     }
 }
 
-// The answer to a call by what it read, and to the input's end by what the desk told.
+// The answer to a call by what it read.
 fn fed_by(moved: Moved, setpoints: &[i32; 900], actuals: &[i32; 900]) -> Fed
     ensures { result ≡ fed_by (left_of moved setpoints.now actuals.now) }
 {
-    let desk = Desk {
-        run: moved.desk.bare.whole(setpoints, actuals),
-        stage: moved.desk.stage,
-    };
     Fed {
         reader: Reader {
             gatherer: moved.gatherer,
-            desk,
+            desk: moved.desk.whole(setpoints, actuals),
         },
         used: moved.used,
         printed: Ok(moved.printed),
-    }
-}
-
-fn ended_by(gatherer: Gatherer, told: Told) -> Fed
-    ensures { result ≡ ended_by gatherer told }
-{
-    Fed {
-        reader: Reader {
-            gatherer,
-            desk: told.desk,
-        },
-        used: 0,
-        printed: told.printed,
     }
 }
 
@@ -353,7 +349,14 @@ impl Reader {
                 printed: Err(Refusal::BufferTooShort),
             };
         }
-        let answer = self.desk.finish(self.gatherer.count(), out);
-        ended_by(self.gatherer, answer)
+        let told = self.desk.finish(self.gatherer.count(), out);
+        Fed {
+            reader: Reader {
+                desk: told.desk,
+                ..self
+            },
+            used: 0,
+            printed: told.printed,
+        }
     }
 }

@@ -10,6 +10,7 @@ use Rattle.quarter.specs.declared.sheet.Line.{Line}
 use Rattle.quarter.specs.declared.sheet.Sheet.{Sheet}
 use Rattle.quarter.specs.declared.sheet.Sheets.{Sheets}
 use Rattle.judging.specs.declared.kept.Kept.{Kept as Lent}
+use Rattle.judging.specs.declared.kept.Lists.{Lists}
 
 -- a contract's gap by the figures of its K line: its cap is SO − UN, and the gap the smaller of MI and what the cap has above the smaller of cap and AK; - stops at 0
 unfoldable pub cap_in : Figures → ℕ
@@ -46,6 +47,10 @@ keeping gaps surpluses shares = record { gaps = gaps; surpluses = surpluses; sha
 -- what stands in them
 abbrev pub kept_in : Lent → Kept
 kept_in lent = keeping lent.gaps.now lent.surpluses.now lent.shares.now
+
+-- and in those of a reader
+abbrev pub lists_in : Lists → Kept
+lists_in lists = keeping lists.gaps.now lists.surpluses.now lists.shares.now
 
 -- before a call and after it, the same lists are lent
 pub record SameLists (before after : Lent) : Type 0 where

@@ -1,9 +1,9 @@
 // The verdict on the shares that were said: the quarter hours in order, P before N, until one does not hold.
 ghost use Rattle.std.specs.Prelude.{◌≡◌, ◌≤◌, ◌^◌};
-ghost use Rattle.judging.specs.Kept.{row_of, kept_in};
+ghost use Rattle.judging.specs.Kept.{lists_in};
 ghost use Rattle.judging.specs.Judged.{shares_before, shares_from, holds_at, holds_in, judged_of};
 
-use crate::kept::Kept;
+use crate::kept::{Lists, row_of};
 use crate::wanted::wanted;
 use arithmetic::energy::Kwh;
 use contracts::books::Books;
@@ -24,28 +24,17 @@ fn shares_from(shares: &[i32], from: usize, n: usize) -> [i32; 32]
 }
 
 // What is kept at a row, nothing past the lists' ends, against so many shares from a place on.
-fn holds_at(kept: &Kept, row: usize, from: usize, n: usize) -> bool
+fn holds_at(lists: Lists, row: usize, from: usize, n: usize) -> bool
     requires { (from ≤ 2 ^ 32) × (n ≤ 32) }
-    ensures { result ≡ holds_at (kept_in kept.now) row from n }
+    ensures { result ≡ holds_at (lists_in lists.entry) row from n }
 {
-    let gaps = kept.gaps.get(row).copied().unwrap_or([0; 32]);
-    let surplus = kept.surpluses.get(row).copied().unwrap_or(0);
+    let gaps = lists.gaps.get(row).copied().unwrap_or([0; 32]);
+    let surplus = lists.surpluses.get(row).copied().unwrap_or(0);
     acceptable(
         gaps.map(Kwh),
         Kwh(surplus),
-        shares_from(kept.shares, from, n),
+        shares_from(lists.shares, from, n),
     )
-}
-
-// Where a direction of a quarter hour is kept.
-fn row_of(quarter: u8, direction: Direction) -> usize
-    ensures { result ≡ row_of quarter direction }
-{
-    let row = usize::from(quarter) * 2;
-    match direction {
-        Direction::Positive => row,
-        Direction::Negative => row + 1,
-    }
 }
 
 // How many shares stand before its own.
@@ -61,26 +50,27 @@ fn shares_before(books: Books, quarter: u8, direction: Direction) -> usize
 }
 
 // Whether its shares hold.
-fn holds_in(books: Books, quarter: u8, direction: Direction, kept: &Kept) -> bool
-    ensures { result ≡ holds_in books (kept_in kept.now) quarter direction }
+fn holds_in(books: Books, quarter: u8, direction: Direction, lists: Lists) -> bool
+    ensures { result ≡ holds_in books (lists_in lists.entry) quarter direction }
 {
     let row = row_of(quarter, direction);
     let from = shares_before(books, quarter, direction);
     let held = books.book(direction).held();
-    holds_at(kept, row, from, held)
+    holds_at(lists, row, from, held)
 }
 
-pub fn judged(books: Books, quarters: u8, kept: &Kept) -> Verdict
-    ensures { result ≡ judged_of books (kept_in kept.now) quarters }
+// P before N, each with its own answer.
+pub fn judged(books: Books, quarters: u8, lists: Lists) -> Verdict
+    ensures { result ≡ judged_of books (lists_in lists.entry) quarters }
 {
     for quarter in 0..quarters {
-        if !holds_in(books, quarter, Direction::Positive, kept) {
+        if !holds_in(books, quarter, Direction::Positive, lists) {
             return Verdict::Failing {
                 quarter,
                 direction: Direction::Positive,
             };
         }
-        if !holds_in(books, quarter, Direction::Negative, kept) {
+        if !holds_in(books, quarter, Direction::Negative, lists) {
             return Verdict::Failing {
                 quarter,
                 direction: Direction::Negative,

@@ -1,17 +1,26 @@
 // What is kept of a quarter hour until its shares come: the gaps and the surplus of each direction, by the figures of its sheets.
 ghost use Rattle.std.specs.Prelude.{◌≡◌};
-ghost use Rattle.series.specs.Scan.{each};
-ghost use Rattle.judging.specs.Kept.{gap_in, gap_on, kept_in, SameLists, kept_of, with_row, with_share};
+ghost use Rattle.judging.specs.Kept.{gap_in, gap_on, row_of, kept_in, SameLists, kept_of, with_row, with_share};
 
 use quarter::sheet::{Figures, Line, Sheet, Sheets};
+use vocabulary::direction::Direction;
 use vocabulary::refusal::Refusal;
 
 // The lists that the caller lends. Both directions of a quarter hour have a row of gaps and a surplus, and each U line a share.
+// Three lists, since there are as many shares as U lines, whatever the rows. Each call promises besides that the same lists are lent: only so the caller knows its own.
 #[derive(Drop)]
 pub struct Kept<'a> {
     pub gaps: &'a mut [[u32; 32]],
     pub surpluses: &'a mut [u32],
     pub shares: &'a mut [i32],
+}
+
+// The same lists for whoever only reads them.
+#[derive(Clone, Copy)]
+pub struct Lists<'a> {
+    pub gaps: &'a [[u32; 32]],
+    pub surpluses: &'a [u32],
+    pub shares: &'a [i32],
 }
 
 // A contract's gap.
@@ -29,24 +38,29 @@ fn gap_on(line: Line) -> u32
     gap(line.figures)
 }
 
-fn gaps_of(lines: [Line; 32]) -> [u32; 32]
-    ensures { result ≡ each gap_on lines }
+// Where a direction of a quarter hour is kept.
+pub(crate) fn row_of(quarter: u8, direction: Direction) -> usize
+    ensures { result ≡ row_of quarter direction }
 {
-    lines.map(gap_on)
+    let row = usize::from(quarter) * 2;
+    match direction {
+        Direction::Positive => row,
+        Direction::Negative => row + 1,
+    }
 }
 
-// Each is written by its index: after a `get_mut` no proof knows the elements of a slice.
+// A list is written by its index: after a `get_mut` no proof knows the elements of a slice.
 impl Kept<'_> {
     // A direction of a quarter hour.
     fn keep_row(&mut self, row: usize, sheet: Sheet)
         ensures same { SameLists self.old self.new }
         ensures is { kept_in self.new ≡ with_row (kept_in self.old) row sheet }
     {
-        if row < self.gaps.len() {
-            self.gaps[row] = gaps_of(sheet.lines);
-        }
         if row < self.surpluses.len() {
             self.surpluses[row] = sheet.pool.surplus.0;
+        }
+        if row < self.gaps.len() {
+            self.gaps[row] = sheet.lines.map(gap_on);
         }
     }
 
@@ -56,9 +70,8 @@ impl Kept<'_> {
         ensures is { kept_in self.new ≡ kept_of refusal (kept_in self.old) quarter sheets }
     {
         if refusal.is_ok() {
-            let row = usize::from(quarter) * 2;
-            self.keep_row(row, sheets.positive);
-            self.keep_row(row + 1, sheets.negative);
+            self.keep_row(row_of(quarter, Direction::Positive), sheets.positive);
+            self.keep_row(row_of(quarter, Direction::Negative), sheets.negative);
         }
     }
 

@@ -115,7 +115,7 @@ impl Gatherer {
         self.length
     }
 
-    // The line's bytes, in the first `length` places.
+    // The line's bytes, in the first `length` places. Bytes and length go apart: a slice of them could not outlive the gatherer, which is handed on.
     pub fn bytes(self) -> [u8; KEPT]
         ensures { result ≡ self.bytes }
     {

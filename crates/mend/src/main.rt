@@ -1,5 +1,5 @@
-// The mending program: standard input to standard output. What is printed for a recording is `mended` of the crate mending; here blocks are read, fed to
-// the reader, and what it prints is written out.
+// The mending program: standard input to standard output. What is printed for a recording is `mended` of the crate mending; `stream` reads the
+// blocks and writes out what the reader prints.
 #![tactic(auto)]
 
 ghost use Rattle.mendfeed.specs.Reader.{closed_of};
@@ -13,7 +13,7 @@ use vocabulary::refusal::Refusal;
 // The buffer that the reader prints into: it is written out when no line more may fit, so the longer, the fewer writes.
 const BUFFER: usize = 65536;
 
-// The reader, as one of blocks.
+// The reader, as one of blocks. A type of its own around it: a trait of another crate is given to own types only.
 #[derive(Clone, Copy)]
 struct Mending(Reader);
 

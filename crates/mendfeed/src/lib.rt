@@ -28,7 +28,7 @@ pub struct Reader {
 }
 
 // What a call answers: the reader after it, how many bytes of the block it used, and what it printed. A call that is lent fewer than ROOM bytes does nothing,
-// and says so.
+// and says so. A type of its own beside feed's: this crate does not stand on that one.
 #[derive(Clone, Copy)]
 pub struct Fed {
     pub reader: Reader,
@@ -38,7 +38,7 @@ pub struct Fed {
 
 // The reader after some bytes of a block, and the place after what was printed.
 #[derive(Clone, Copy)]
-pub struct Moved {
+struct Moved {
     reader: Reader,
     used: usize,
     next: usize,
@@ -46,14 +46,14 @@ pub struct Moved {
 
 // Recorded samples that the mender took one after the other: what it holds then, how many there were, and the places after them and after what they printed.
 #[derive(Clone, Copy)]
-pub struct Ran {
+struct Ran {
     mender: Mender,
     rows: u64,
     to: usize,
     next: usize,
 }
 
-// The line that a gatherer holds.
+// The line that a gatherer holds. Buffer and place go side by side, as in the mender.
 fn served(mender: Mender, gatherer: Gatherer, out: &mut [u8], at: usize) -> Told
     ensures { Turns out.old at (line_turn mender gatherer.count (held_by gatherer)) result out.new }
 {
@@ -70,6 +70,7 @@ fn is_ready(mender: Mender, room: usize) -> bool
 }
 
 // One recorded sample more, if one comes next among the complete lines and the mender is ready for it.
+// The block and where its complete lines end go apart: what the rows come to is said of the whole block.
 fn row_at(ran: Ran, count: u64, block: &[u8], end: usize, out: &mut [u8]) -> Option<Ran>
     requires cut { Cut block.now end }
     requires runnable { Runnable block.now ran out.old }
@@ -213,14 +214,7 @@ impl Reader {
         let mut reader = self;
         let mut i = 0;
         let mut next = 0;
-        while i < block.len() {
-            if reader.is_closed() || out.len() - next < ROOM {
-                return Moved {
-                    reader,
-                    used: i,
-                    next,
-                };
-            }
+        while i < block.len() && !reader.is_closed() && ROOM <= out.len() - next {
             let moved = reader.step(block, end, i, out, next);
             reader = moved.reader;
             i += moved.used;

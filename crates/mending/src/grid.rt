@@ -45,12 +45,7 @@ pub(crate) fn place_of(grid: Grid, second: u32) -> u32
 pub(crate) fn seconds_of(grid: Grid, places: u32) -> u64
     ensures { result ≡ places * seconds_of grid }
 {
-    let places = u64::from(places);
-    match grid.interval {
-        Interval::One => places,
-        Interval::Three => places * 3,
-        Interval::Four => places * 4,
-    }
+    u64::from(places) * u64::from(grid.interval.windows().seconds)
 }
 
 // Whether a second lies outside the stretch, or is no multiple of the interval.

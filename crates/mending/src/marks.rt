@@ -8,6 +8,7 @@ use print::{put, put_line_end, put_tab};
 use sheets::put_signed;
 use vocabulary::sample::Sample;
 
+// Buffer and place go side by side, as in `print`, which says why.
 fn put_letter(buf: &mut [u8], at: usize, letter: u8) -> usize
     ensures { FieldsUpTo 2 buf.old at [] ((letter ∷ []) ∷ []) result buf.new }
 {
@@ -15,7 +16,7 @@ fn put_letter(buf: &mut [u8], at: usize, letter: u8) -> usize
     put(buf, field, letter)
 }
 
-// The X line: a second, and O, T or M.
+// The X line: a second, and O, T or M. The letter itself, since it is what is printed.
 pub(crate) fn put_mark(buf: &mut [u8], at: usize, second: i64, kind: u8) -> usize
     ensures { WroteUpTo 25 buf.old at (mark_text second kind) result buf.new }
 {

@@ -25,6 +25,7 @@ use vocabulary::refusal::Refusal;
 use vocabulary::sample::{Sample, in_range};
 use vocabulary::stage::Stage;
 
+// `next` is 0 until a good line came: the missing places are counted from there.
 #[derive(Clone, Copy)]
 pub struct Mender {
     stage: Stage,
@@ -173,7 +174,7 @@ impl Mender {
         put_sample(out, own, row.sample)
     }
 
-    // What a line that is not refused makes the mender print: nothing longer is missing before it.
+    // What a line that is not refused makes the mender print: its hole is not too long, so at most 60 samples are missing before it.
     fn put_sorted(self, sorted: Sorted, row: Recorded, out: &mut [u8], at: usize) -> usize
         requires { accepted (sorted_refusal self sorted) ≡ true }
         ensures { WroteUpTo 4184 out.old at (items_text (row_items self sorted row)) result out.new }
@@ -234,7 +235,7 @@ impl Mender {
         }
     }
 
-    // A refusal: its line is printed, and nothing is read any more.
+    // A refusal: its line is printed, and nothing is read any more. Each turn prints its own refusal, as its definition has it.
     fn refused(self, number: u64, refusal: Refusal, out: &mut [u8], at: usize) -> Told
         ensures { Turns out.old at (refused_turn self number (Err refusal)) result out.new }
     {

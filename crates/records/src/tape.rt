@@ -26,10 +26,7 @@ fn sample_refusal(
 ) -> Result<(), Refusal>
     ensures { Admitted samples filled taken quarters sample.setpoint sample.actual result }
 {
-    if samples <= filled {
-        return Err(Refusal::WrongMoment);
-    }
-    if quarters <= taken {
+    if samples <= filled || quarters <= taken {
         return Err(Refusal::WrongMoment);
     }
     if !in_range(sample.setpoint) || !in_range(sample.actual) {

@@ -17,7 +17,7 @@ use vocabulary::refusal::Refusal;
 // So much is read at once: a larger block has more pages to be made, and a smaller one is read more often.
 const BLOCK: usize = 65536;
 
-// The reader, as one of blocks.
+// The reader, as one of blocks. A type of its own around it: a trait of another crate is given to own types only.
 #[derive(Clone, Copy)]
 struct Settling(Reader);
 
@@ -74,6 +74,7 @@ fn left_over(block: &mut [u8], from: usize, to: usize) -> usize
 }
 
 // What is at hand, the first `all` bytes of a block: its whole lines are fed, and the rest is kept, so many bytes; none where what was printed could not be written.
+// Block and `all` go apart: the bytes that are left move within the block.
 fn turn(
     rt: &(impl Print + Eprint),
     reader: &mut Settling,
@@ -103,6 +104,7 @@ fn read_on(input: &mut impl Read, block: &mut [u8], left: usize) -> usize
 }
 
 // A proved loop has to end, and nothing says that an input does: it counts as far as no input goes.
+// Not `run` of Blocks: the end of a block that is no whole line is kept for the next one.
 fn main(rt: HostRuntime) {
     let mut input = rt.stdin();
     let mut reader = Settling(Reader::new());

@@ -1,5 +1,5 @@
 // A run without the powers of its samples: what is handed on while these lie in two arrays of whoever reads them. With them a run is three times as long,
-// and it is copied some ten times for each quarter hour.
+// and it is copied some ten times for each quarter hour. They stay two arrays: channel and claims go along the setpoints and the actuals apart.
 ghost use Rattle.std.specs.Prelude.{◌≡◌, List, ◌<◌, ℤ};
 ghost use Rattle.quarter.specs.Quarter.{quarter_held};
 ghost use Rattle.settlement.specs.Bare.{whole_of, bare_after, bare_taken_of};
@@ -18,7 +18,7 @@ use records::account::Account;
 use records::tape::Tape;
 use vocabulary::refusal::Refusal;
 
-// Of the samples at hand it knows how many count.
+// Of the samples at hand it knows how many count. Run does not hold a Bare: the definitions name each part of a run.
 #[derive(Clone, Copy)]
 pub struct Bare {
     pub(crate) plan: Plan,
@@ -29,7 +29,7 @@ pub struct Bare {
     pub(crate) account: Account,
 }
 
-// What taking answers, as for a run with its samples.
+// What taking answers, as for a run with its samples. A type of its own beside Taken: promises name each.
 #[derive(Clone, Copy)]
 pub struct BareTaken {
     pub bare: Bare,

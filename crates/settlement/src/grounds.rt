@@ -33,7 +33,7 @@ pub fn open_refusal(header: Header) -> Result<(), Refusal>
     Ok(())
 }
 
-// The counts below are handed over one by one: a run and a bare run hold them in other places, and a struct would be made anew for each call.
+// The counts go one by one, as the definitions of the same names take them.
 
 // Whether no sample was given yet, in a run that takes some.
 pub(crate) fn before_samples(filled: usize, taken: u8, quarters: u8) -> bool

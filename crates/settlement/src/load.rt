@@ -47,7 +47,7 @@ pub(crate) fn begun_with(interval: Interval, bounds: Bounds) -> Load
 fn bound_in_range(bound: Units) -> bool
     ensures { result ≡ bound_in_range bound.0 }
 {
-    -10_800_000_000 <= bound.0 && bound.0 <= 10_800_000_000
+    (-10_800_000_000..=10_800_000_000).contains(&bound.0)
 }
 
 // Whether a setpoint lies between UGA and OGA.

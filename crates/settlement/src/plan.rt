@@ -26,7 +26,7 @@ pub fn interval_of(seconds: u32) -> Interval
     }
 }
 
-// A small count as a u8.
+// A count as a u8, 255 at most.
 fn count_of(n: i32) -> u8
     ensures { result ≡ least_of (up n) 255 }
 {

@@ -75,7 +75,7 @@ pub struct Heading {
     pub lot: u32,
 }
 
-// No sample yet.
+// No sample yet. One function for each definition of that name: in one piece `fresh` would be too long.
 fn no_tape() -> Tape
     ensures { result ≡ no_tape }
 {
@@ -145,8 +145,7 @@ impl Run {
     pub fn books(self) -> Books
         ensures { result ≡ self.books }
     {
-        let Run { books, .. } = self;
-        books
+        self.books // those of both directions
     }
 
     // Whether neither a contract nor a sample came yet, in a run that takes some.
@@ -189,20 +188,18 @@ impl Run {
     }
 
     // Its past setpoints follow, oldest first.
-    pub fn setpoint(self, setpoint: i32) -> Answer
+    pub fn setpoint(mut self, setpoint: i32) -> Answer
         ensures { result ≡ with_setpoint_of self setpoint }
     {
         let refusal = self.load.setpoint_refusal(self.is_untouched(), setpoint);
-        if refusal.is_err() {
-            return Answer { run: self, refusal };
+        if refusal.is_ok() {
+            self = self.recalling(setpoint);
         }
-        Answer {
-            run: self.recalling(setpoint),
-            refusal,
-        }
+        Answer { run: self, refusal }
     }
 
     // What is wrong with a contract but for a block: the moment, then what the lists of both directions say.
+    // The identifier goes beside the contract: it is a piece of the line, and is copied only when it is kept.
     fn contract_wrong(self, contract: Contract, identifier: &[u8]) -> Result<(), Refusal>
         ensures { result ≡ contract_wrong self contract identifier.now }
     {
@@ -302,11 +299,9 @@ impl Run {
     pub fn take(self) -> Taken
         ensures { result ≡ taken_of self }
     {
-        let setpoints = self.tape.setpoints;
-        let actuals = self.tape.actuals;
-        let taken = self.bared().take(&setpoints, &actuals);
+        let taken = self.bared().take(&self.tape.setpoints, &self.tape.actuals);
         Taken {
-            run: taken.bare.whole(&setpoints, &actuals),
+            run: taken.bare.whole(&self.tape.setpoints, &self.tape.actuals),
             refusal: taken.refusal,
             quarter: taken.quarter,
             sheets: taken.sheets,

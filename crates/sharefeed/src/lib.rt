@@ -1,14 +1,14 @@
 // Blocks of an input for the checker of shares, in constant memory, however the input is cut. Nothing is printed before its end, so a call reads its whole block.
 #![tactic(auto)]
 
-ghost use Rattle.std.specs.Prelude.{◌≡◌, take};
+ghost use Rattle.std.specs.Prelude.{◌≡◌};
 ghost use Rattle.lines.specs.Handing.{held_by, handed};
-ghost use Rattle.judging.specs.Kept.{kept_in, SameLists};
+ghost use Rattle.judging.specs.Kept.{kept_in, lists_in, SameLists};
 ghost use Rattle.checking.specs.Checker.{standing, line_turn, stopped_at, Told, finish_text};
 ghost use Rattle.sharefeed.specs.Reader.{empty_reader, progress, handled, feed_of, after_part};
 
 use checking::checker::Checker;
-use judging::kept::Kept;
+use judging::kept::{Kept, Lists};
 use lines::{Gathered, Gatherer};
 use vocabulary::refusal::Refusal;
 
@@ -19,23 +19,15 @@ pub struct Reader {
     checker: Checker,
 }
 
-// A line of which so many bytes are kept.
-fn told(checker: &mut Checker, number: u64, bytes: &[u8], length: usize, kept: &mut Kept)
-    ensures same { SameLists kept.old kept.new }
-    ensures is { line_turn (standing checker.old (kept_in kept.old)) number (take length bytes.now)
-        ≡ standing checker.new (kept_in kept.new) }
-{
-    let end = length.min(bytes.len());
-    checker.line(number, &bytes[..end], kept);
-}
-
+// The checker takes a line by the bytes that are kept of it.
 fn served(checker: &mut Checker, held: Gatherer, kept: &mut Kept)
     ensures same { SameLists kept.old kept.new }
     ensures is { line_turn (standing checker.old (kept_in kept.old)) held.count (held_by held)
         ≡ standing checker.new (kept_in kept.new) }
 {
     let bytes = held.bytes();
-    told(checker, held.count(), &bytes, held.length(), kept);
+    let end = held.length().min(bytes.len());
+    checker.line(held.count(), &bytes[..end], kept);
 }
 
 impl Reader {
@@ -85,6 +77,7 @@ impl Reader {
         ensures is { feed_of (progress self.old (kept_in kept.old)) block.now
             ≡ progress self.new (kept_in kept.new) }
     {
+        // no `for`, since it goes on by what a part used
         let mut i = 0;
         while i < block.len() {
             let part = self.gatherer.gather(&block[i..]);
@@ -94,10 +87,10 @@ impl Reader {
     }
 
     // The input ended: what is printed.
-    pub fn finish(self, kept: &Kept, out: &mut [u8]) -> Result<usize, Refusal>
+    pub fn finish(self, lists: Lists, out: &mut [u8]) -> Result<usize, Refusal>
         ensures { Told out.old
-            (finish_text (standing self.checker (kept_in kept.now)) self.gatherer.count) result out.new }
+            (finish_text (standing self.checker (lists_in lists.entry)) self.gatherer.count) result out.new }
     {
-        self.checker.finish(self.gatherer.count(), kept, out)
+        self.checker.finish(self.gatherer.count(), lists, out)
     }
 }

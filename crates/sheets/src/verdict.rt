@@ -10,6 +10,7 @@ use vocabulary::direction::Direction;
 use vocabulary::refusal::Refusal;
 
 // Accepted, with the number of quarter hours; or the first quarter hour and direction that does not hold.
+// No Result: a failing share is an answer, not a refusal.
 #[derive(Clone, Copy)]
 pub enum Verdict {
     Accepted(u8),

@@ -6,7 +6,7 @@ ghost use Rattle.std.specs.Prelude.{◌≡◌, true, false, ℕ, ◌≤◌, ◌<
 use std::io::Read;
 use vocabulary::refusal::Refusal;
 
-// So much is read at once.
+// So much is read at once, as in settle.
 const BLOCK: usize = 65536;
 
 // What a reader makes of a block: how many bytes of it were used, and how many were printed.
@@ -44,6 +44,7 @@ pub trait Blocks {
     ghost at_stop: { (reader : Self) (bytes : List ℕ) → stopped reader ≡ true → through reader bytes reader };
 
     // Writes out what a call printed into a buffer; where that fails, the program says so.
+    // Whether, and no Result: why it failed is said here.
     final fn written(
         rt: &(impl Print + Eprint),
         printed: Result<usize, Refusal>,

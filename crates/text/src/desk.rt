@@ -29,7 +29,7 @@ pub struct Told {
     pub printed: Result<usize, Refusal>,
 }
 
-// What it answers to samples, of which a reader has the powers.
+// What it answers to samples, of which a reader has the powers. A type of its own beside Told: promises name each.
 #[derive(Clone, Copy)]
 pub struct BareTold {
     pub bare: Bare,
@@ -49,7 +49,7 @@ fn kept(before: Desk, told: Told) -> Told
     }
 }
 
-// After samples: the quarter hour is taken once no room is left in it. A run that waits for none is left as it is.
+// After samples: the quarter hour is taken once no room is left in it. A run that waits for none is left as it is. Two arrays, as at `Bare`.
 fn take_full(bare: Bare, setpoints: &[i32; 900], actuals: &[i32; 900], out: &mut [u8]) -> BareTold
     ensures { Turned out.old (quarter_turn (whole_of bare setpoints.now actuals.now))
         (told_with result setpoints.now actuals.now) out.new }
@@ -87,7 +87,7 @@ pub fn samples(bare: Bare, setpoints: &[i32; 900], actuals: &[i32; 900], out: &m
     take_full(bare, setpoints, actuals, out)
 }
 
-// Before the header any other line comes too early.
+// Before the header any other line comes too early. Not one with the checker's: there a share is a line too.
 fn too_early(said: Line) -> Result<(), Refusal>
     ensures { result ≡ early said }
 {
@@ -161,7 +161,7 @@ impl Desk {
         }
     }
 
-    // A refusal: its line is printed, and the desk is closed.
+    // A refusal: its line is printed, and the desk is closed. Each turn prints its own refusal, as its definition has it.
     fn refused(self, number: u64, refusal: Refusal, out: &mut [u8]) -> Told
         ensures { Turned out.old (refused_turn self number (Err refusal)) result out.new }
     {

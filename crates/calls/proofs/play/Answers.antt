@@ -1,6 +1,6 @@
 -- `calls::play` is safe and ends: each line ends after its beginning.
 -- Assumes nothing.
-use Rattle.std.proofs.Common.{◌+◌, ◌-◌, ◌≤◌, length, arith, rules}
+use Rattle.std.proofs.Common.{arith}
 use Rattle.calls.proofs.play.Goals as goal
 
 pub overflow_add-from : goal.overflow_add-from

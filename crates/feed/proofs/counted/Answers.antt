@@ -3,8 +3,8 @@ use Rattle.feed.proofs.ReaderLaws.{counted-steps}
 use native.Mathlib.Omega.{arith}
 use Rattle.feed.proofs.counted.Goals as goal
 
-pub overflow_add-longer : goal.overflow_add-longer
-overflow_add-longer c = omega (arith, c.requires.count_bound)
+pub overflow_add-bare : goal.overflow_add-bare
+overflow_add-bare c = omega (arith, c.requires.count_bound)
 
 pub returns : goal.returns
 returns c =

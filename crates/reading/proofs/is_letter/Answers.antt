@@ -1,12 +1,14 @@
 -- `reading::is_letter` meets its contract. Assumes nothing.
-use Rattle.std.proofs.Common.{eq-eqb, ne_eqb}
+use Rattle.std.proofs.Common.{rules, ◌≡◌, ℕ, List, [], ◌∷◌, nat_eq, refl}
+use Rattle.std.specs.Cmp.Lexicographic.{pointwise}
 use Rattle.reading.specs.Line.{is_letter}
 use Rattle.reading.proofs.is_letter.Goals as goal
 
-pub returns-then-field-eq1 : goal.returns-then-field-eq1
+alone : (letter : ℕ) (xs : List ℕ) → pointwise nat_eq xs (letter ∷ []) ≡ is_letter letter xs
 unfolding is_letter
-returns-then-field-eq1 c = rw (eq-eqb _ _ c.if-field-eq1.true)
+alone letter [] = refl
+alone letter (x ∷ []) = search rules
+alone letter (x ∷ y ∷ xs) = search rules
 
-pub returns-else-field-eq1 : goal.returns-else-field-eq1
-unfolding is_letter
-returns-else-field-eq1 c = rw (ne_eqb _ _ c.if-field-eq1.false)
+pub returns : goal.returns
+returns c = rw (← alone _ _, ← c.as_slice.ensures) c.eq.ensures

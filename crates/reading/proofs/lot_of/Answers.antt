@@ -7,10 +7,10 @@ pub returns-then-is_letter : goal.returns-then-is_letter
 unfolding lot_of
 returns-then-is_letter c = rw (← c.is_letter.ensures, c.if-is_letter.true)
 
-pub returns-in_default : goal.returns-in_default
+pub returns-in_err-number_of : goal.returns-in_err-number_of
 unfolding lot_of
-returns-in_default c = rw (← c.is_letter.ensures, c.if-is_letter.false, ← c.in_default.ensures)
+returns-in_err-number_of c = rw (c.from_residual.ensures, ← c.is_letter.ensures, c.if-is_letter.false, ← c.in_err-number_of.ensures) (search rules)
 
 pub returns : goal.returns
 unfolding lot_of
-returns c = rw (← c.is_letter.ensures, c.if-is_letter.false, ← c.in-Some.ensures) (search rules)
+returns c = rw (← c.is_letter.ensures, c.if-is_letter.false, ← c.in_ok-number_of.ensures) (search rules)

@@ -3,4 +3,4 @@ use Rattle.samples.proofs.FrontScan.{by-words}
 use Rattle.samples.proofs.same_setpoint.Goals as goal
 
 pub returns : goal.returns
-returns c = by-words c.requires.kept c.if-former-lt7.false c.if-width-gt7.false c.if-lines-tab.false c.word_at.ensures c.word_at-2.ensures
+returns c = by-words c.requires.kept c.if-former-lt7.false c.if-longer.false c.if-lines-tab.false c.word_at.ensures c.word_at-2.ensures

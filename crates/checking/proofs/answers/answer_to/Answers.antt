@@ -6,4 +6,4 @@ pub returns-in-Settling : goal.returns-in-Settling
 returns-in-Settling c = rw c.in-Settling.is c.line_answer.ensures
 
 pub returns-in-Share : goal.returns-in-Share
-returns-in-Share c = rw (c.in-Share.is, c.answered.ensures, c.early_refusal.ensures, c.whose.ensures)
+returns-in-Share c = rw (c.in-Share.is, c.early_refusal.ensures, c.whose.ensures)

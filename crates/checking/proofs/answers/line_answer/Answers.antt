@@ -2,9 +2,6 @@
 use Rattle.std.proofs.Common.{◌≡◌, to_z, of_z, w32, rules}
 use Rattle.checking.proofs.answers.line_answer.Goals as goal
 
-pub returns-in-Header : goal.returns-in-Header
-returns-in-Header c = rw c.in-Header.is c.answered.ensures
-
 pub returns-in-Bounds : goal.returns-in-Bounds
 returns-in-Bounds c = rw c.in-Bounds.is c.bounds.ensures
 
@@ -21,7 +18,4 @@ pub returns-in-Sample : goal.returns-in-Sample
 returns-in-Sample c = rw c.in-Sample.is c.sample.ensures
 
 pub returns-in-End : goal.returns-in-End
-returns-in-End c = rw (c.in-End.is, ← c.end.ensures) c.answered-in-End.ensures
-
-pub returns-in-Malformed : goal.returns-in-Malformed
-returns-in-Malformed c = rw c.in-Malformed.is c.answered-in-Malformed.ensures
+returns-in-End c = rw (c.in-End.is, ← c.end.ensures)

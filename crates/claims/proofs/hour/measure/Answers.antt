@@ -22,7 +22,7 @@ followed c =
     let i = c.args.channel.interval in
     let few = (quarter-of i (windows_of i).samples refl).0 in
     let all = count-all (windows_of i).samples 900 900 few (omega (arith, few)) (omega (arith, few)) in
-    rw (c.sized.ensures.0, c.windows-windows.ensures, c.interval.ensures, all) at c.along-after.ensures
+    rw (c.windows-windows.ensures, c.interval.ensures, all) at c.along-after.ensures
 
 pub both-requires : goal.both-requires
 both-requires c =
@@ -31,7 +31,7 @@ both-requires c =
     let ch = a.channel in
     let held : 900 ≤ length a.setpoints = omega arith in
     rw (c.from.ensures, t.windows-windows.ensures, t.interval.ensures, samples-led ch ch.interval a.setpoints a.actuals held (followed t))
-    (timely ch ch.interval a.setpoints a.actuals held (omega arith) t.sized.ensures.1)
+    (timely ch ch.interval a.setpoints a.actuals held (omega arith) (omega (arith, t.well_formed)))
 
 pub returns : goal.returns
 unfolding measured_held samples_of

@@ -12,8 +12,8 @@ pub returns : goal.returns
 unfolding holds_at no_gaps
 returns c =
     let gaps = c.unwrap_or-gaps.result in
-    let there : gaps ≡ get_or c.args.kept.now.gaps.now c.args.row no_gaps = search rules in
-    let surplus : c.unwrap_or-surplus.result ≡ get_or c.args.kept.now.surpluses.now c.args.row 0 = search rules in
+    let there : gaps ≡ get_or c.args.lists.gaps.now c.args.row no_gaps = search rules in
+    let surplus : c.unwrap_or-surplus.result ≡ get_or c.args.lists.surpluses.now c.args.row 0 = search rules in
     let m : length gaps ≡ 32 = search rules in
     let at : (i : ℕ) → i < length gaps → get_or c.map.result i (kwh 0) ≡ kwh (get_or gaps i 0) =
     λ i h. let called = (c.map.ensures.items.at i 0 (kwh 0) (omega arith)).2 in search (rules, called) in

@@ -1,6 +1,6 @@
 use Rattle.judging.proofs.JudgedLaws.{positive-fails, negative-fails, both_hold, none_left}
 use Rattle.judging.specs.Judged.{verdict_from, judged_of}
-use Rattle.judging.specs.Kept.{kept_in}
+use Rattle.judging.specs.Kept.{lists_in}
 use borrow.Author.Tests.{not-true, not-false}
 use mathlib.Core.Path.{◌≡◌, sym, ◌∙◌}
 use Prim.Native.Nat.{◌-◌, ◌≤◌}
@@ -9,4 +9,4 @@ use Rattle.judging.proofs.judged.judged.Given as goal
 
 abbrev pub invariant-loop-quarter : goal.invariant-loop-quarter
 invariant-loop-quarter l =
-    (l.quarter ≤ l.quarters) × (judged_of l.books (kept_in l.kept) l.quarters ≡ verdict_from l.books (kept_in l.kept) l.quarters l.quarter (l.quarters - l.quarter))
+    (l.quarter ≤ l.quarters) × (judged_of l.books (lists_in l.lists) l.quarters ≡ verdict_from l.books (lists_in l.lists) l.quarters l.quarter (l.quarters - l.quarter))

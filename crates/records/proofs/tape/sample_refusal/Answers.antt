@@ -4,16 +4,19 @@ use Rattle.std.proofs.Common.{rules, arith, Bool, true, ◌≡◌, ◌∙◌, sy
 use borrow.Author.Tests.{le-leb, lt-leb}
 use Rattle.vocabulary.specs.Sample.{power_in_range}
 use Rattle.records.specs.Tape.{sample_refusal}
-use Rattle.records.proofs.tape.sample_refusal.Goals.{then-not-in_range-via-then-not-in_range, then-not-in_range-via-else-not-in_range+then-not-in_range-2}
+use Rattle.records.proofs.tape.sample_refusal.Goals.{then-samples-filled-via-then-samples-filled, then-samples-filled-via-else-samples-filled+then-quarters-taken, then-not-in_range-via-then-not-in_range, then-not-in_range-via-else-not-in_range+then-not-in_range-2}
 use Rattle.records.proofs.tape.sample_refusal.Goals as goal
 
 pub returns-then-samples-filled : goal.returns-then-samples-filled
 unfolding sample_refusal
-returns-then-samples-filled c = record { is = rw (le-leb _ _ c.if-samples-filled.true); room = λ h. absurd (omega arith) }
-
-pub returns-then-quarters-taken : goal.returns-then-quarters-taken
-unfolding sample_refusal
-returns-then-quarters-taken c = record { is = rw (lt-leb _ _ c.if-samples-filled.false, le-leb _ _ c.if-quarters-taken.true); room = λ h. absurd (omega arith) }
+returns-then-samples-filled c =
+    record {
+      is = elim c.then-samples-filled.branch [
+        | then-samples-filled-via-then-samples-filled w ↦ rw (le-leb _ _ w.if-samples-filled.true)
+        | then-samples-filled-via-else-samples-filled+then-quarters-taken w ↦ rw (lt-leb _ _ w.if-samples-filled.false, le-leb _ _ w.if-quarters-taken.true)
+      ];
+      room = λ h. absurd (omega arith);
+    }
 
 pub returns-then-not-in_range : goal.returns-then-not-in_range
 unfolding sample_refusal

@@ -1,6 +1,8 @@
 -- `contracts::book::Book::below_last` meets its contract.
 -- Assumes nothing.
-use Rattle.std.proofs.Common.{rules, length, ◌<◌, ◌≤◌, sym, ap, ◌∙◌}
+use Rattle.std.proofs.Common.{rules, tests, Bor, Option, Some, None, Bool, false, ℤ, List, length, ◌≡◌, ◌-◌, ◌<◌, ◌≤◌, sym, ap, ◌∙◌}
+use Rattle.std.specs.Option.{MatchOption}
+use Rattle.std.specs.Slice.{IsGetResult}
 use borrow.Author.Tests.{ltb-true, ltb-false}
 use lib.Signed.{lt_z}
 use mir.Facts.{to_z-of_z}
@@ -9,19 +11,16 @@ use Rattle.contracts.specs.declared.book.Awarded.{Awarded}
 use Rattle.contracts.proofs.Looking.{none_before, before_last}
 use Rattle.contracts.proofs.book.Book.below_last.Goals as goal
 
-pub returns-in-Some : goal.returns-in-Some
-returns-in-Some c =
-    let cs = c.given.result.now in
-    let price = c.args.price in
-    let last = c.in-Some.last.now in
-    let g = rw c.in-Some.is at c.last.ensures.item in
-    let some : 0 < length cs = ltb-true 0 (length cs) (sym g.0) in
-    let told = ap (λ (x : Awarded). lt_z price x.price) g.1 ∙ sym (before_last price cs last some) ∙ ap (below_last price) c.given.ensures.listed in
-    rw (to_z-of_z c.ranges.price) (search (rules, told))
-
-pub returns-in-None : goal.returns-in-None
-returns-in-None c =
-    let cs = c.given.result.now in
-    let g = rw c.in-None.is at c.last.ensures.item in
+-- what is said of the last contract, if there is one, is said of the list
+of_list : (price : ℤ) (cs : List Awarded) (o : Option (Bor Awarded)) (r : Bool) (P : Bor Awarded → Type 0) → IsGetResult cs 0 (length cs - 1) o → MatchOption o (r ≡ false) P → ((x : Bor Awarded) → P x → r ≡ lt_z price x.now.price) → r ≡ below_last price cs
+of_list price cs None r P g m said =
     let none : length cs ≤ 0 = ltb-false 0 (length cs) (sym g.0) in
-    sym (none_before c.args.price cs none) ∙ ap (below_last c.args.price) c.given.ensures.listed
+    m ∙ sym (none_before price cs none)
+of_list price cs (Some x) r P g m said =
+    let some : 0 < length cs = ltb-true 0 (length cs) (sym g.0) in
+    said x m ∙ ap (λ (last : Awarded). lt_z price last.price) g.1 ∙ sym (before_last price cs x.now some)
+
+pub returns : goal.returns
+returns c =
+    of_list c.args.price c.given.result.now c.last.result c.is_some_and.result _ c.last.ensures.item c.is_some_and.ensures (λ x p. rw (← to_z-of_z c.ranges.price) (search (rules, tests)))
+    ∙ ap (below_last c.args.price) c.given.ensures.listed
