@@ -168,7 +168,9 @@ class Outputs(FrontEnd):
         self.assertIn("one/a.txt and two/a.txt would both be written to ./a.sheet", answer.stderr)
 
     def test_head_ends_it_quietly(self):
-        answer = self.shell('"$fireboxer" settle "$day" | head -n 1; echo "${PIPESTATUS[0]}"')
+        # the sheet fits into a pipe, so its second part has to come when head is gone
+        answer = self.shell('{ head -c 100000 "$day"; sleep 1; tail -c +100001 "$day"; } | "$fireboxer" settle - | head -n 1; '
+                            'echo "${PIPESTATUS[1]}"')
         self.assertEqual((answer.stdout, answer.stderr), (DAY_SHEET.split(b"\n")[0] + b"\n141\n", ""))
 
 
