@@ -6,7 +6,6 @@ and times, and the contents only where those differ."""
 import contextlib
 import fcntl
 import os
-import subprocess
 import time
 
 from desk.endings import NOT_BUILT, Trouble
@@ -65,6 +64,8 @@ def kit():
         with open(os.path.join(home, "KIT-ID"), encoding="utf-8") as file:
             return file.readline().strip()
     except OSError:
+        # imported here, since it is seldom asked
+        import subprocess
         answer = subprocess.run([command, "version"], stdin=subprocess.DEVNULL, stdout=subprocess.PIPE)
         return answer.stdout.decode("utf-8", "replace").strip()
 
@@ -131,25 +132,27 @@ def note_built(name, sources):
 def _sources():
     """every file that a proof may read, in order"""
     files, folders = [os.path.join(ROOT, "crates.txt")], [os.path.join(ROOT, "crates")]
-    while folders:
-        with os.scandir(folders.pop()) as entries:
-            for entry in entries:
-                # links are no sources: the toolchain follows none
-                if entry.is_file(follow_symlinks=False):
-                    files.append(entry.path)
-                elif entry.is_dir(follow_symlinks=False) and entry.name not in NO_SOURCES:
-                    folders.append(entry.path)
-    return sorted(files)
+    for folder in folders:
+        # links are no sources: the toolchain follows none
+        for entry in os.scandir(folder):
+            if entry.is_file(follow_symlinks=False):
+                files.append(entry.path)
+            elif entry.name not in NO_SOURCES and entry.is_dir(follow_symlinks=False):
+                folders.append(entry.path)
+    files.sort()
+    return files
 
 
 def _times(name, files):
     """names, sizes and times of a program and its sources; empty where one is so fresh that its time says nothing"""
-    told, newest = [], 0
+    told, fresh, stat = [], time.time_ns() - TOO_FRESH, os.stat
     for path in [program_file(name), *files]:
-        status = os.stat(path)
-        told.append(f"{path} {status.st_size} {status.st_mtime_ns} {status.st_ctime_ns} {status.st_ino}")
-        newest = max(newest, status.st_mtime_ns, status.st_ctime_ns)
-    return "" if newest > time.time_ns() - TOO_FRESH else "\n".join(told)
+        status = stat(path)
+        changed, moved = status.st_mtime_ns, status.st_ctime_ns
+        if changed > fresh or moved > fresh:
+            return ""
+        told.append(f"{path} {status.st_size} {changed} {moved} {status.st_ino}")
+    return "\n".join(told)
 
 
 def _digest(files):

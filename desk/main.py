@@ -1,5 +1,4 @@
 """The command line: finds the command, runs it, and turns every way that it can end in into an exit status."""
-import argparse
 import importlib
 import os
 import signal
@@ -8,6 +7,7 @@ import sys
 from desk import endings, signals, streams
 from desk.commands import COMMANDS
 from desk.endings import ACCEPTED, ReaderGone, Trouble
+from desk.inputwords import inputs_alone
 from desk.visible import visible
 
 ABOUT = """Fireboxer settles a pool's secondary control energy, by programs that are proved.
@@ -25,16 +25,6 @@ The first time, and after a source changed, the program is proved before it is b
 
 {statuses}
 """
-
-
-class Parser(argparse.ArgumentParser):
-    """A parser whose help and errors go the way of all other output."""
-
-    def print_help(self, file=None):
-        streams.print_out(self.format_help().encode())
-
-    def error(self, message):
-        raise Trouble(f"{message}; see fireboxer help")
 
 
 def main(words):
@@ -65,15 +55,15 @@ def _run(words):
     if command not in COMMANDS:
         raise Trouble(f"there is no command {visible(os.fsencode(command))}; see fireboxer help")
     module = importlib.import_module(f"desk.commands.{command}")
-    parser = Parser(prog=f"fireboxer {command}", description=COMMANDS[command], epilog=endings.table(),
-                    allow_abbrev=False, formatter_class=_formatter)
+    return module.run(inputs_alone(module, rest) or _parsed(command, module, rest))
+
+
+def _parsed(command, module, words):
+    # imported here, since reading words by argparse takes longer than all else that is done at the start
+    from desk.parsing import Parser
+    parser = Parser(prog=f"fireboxer {command}", description=COMMANDS[command], epilog=endings.table())
     module.arguments(parser)
-    return module.run(parser.parse_args(rest))
-
-
-def _formatter(prog):
-    """with a fixed width, since asking for the terminal's takes longer than all else that is done at the start"""
-    return argparse.RawDescriptionHelpFormatter(prog, width=120)
+    return parser.parse_args(words)
 
 
 def _help():

@@ -2,13 +2,13 @@
 import collections
 import os
 import select
-import subprocess
 
 from desk import signals
 from desk.building import program_file
 from desk.endings import NOT_BUILT, Trouble
 from desk.inputs import BLOCK
 from desk.places import ROOT
+from desk.starting import Started
 from desk.streams import say
 
 # The last bytes of a sheet that are kept: the longest line is far shorter.
@@ -33,7 +33,7 @@ def run(name, source, take):
     process = None
     try:
         with signals.held():
-            process = subprocess.Popen(_command(name), stdin=subprocess.PIPE, stdout=subprocess.PIPE, bufsize=0)
+            process = Started(_command(name))
         tail = _pump(process, source, take)
         status = process.wait()
     finally:
@@ -54,9 +54,8 @@ class Running:
 
     def start(self):
         """starts it"""
-        into, out = self.source.descriptor, subprocess.PIPE
         with signals.held():
-            self.process = subprocess.Popen(_command(self.name), stdin=into, stdout=out, bufsize=0)
+            self.process = Started(_command(self.name), self.source.descriptor)
 
     def descriptor(self):
         """where to wait for what it prints"""
