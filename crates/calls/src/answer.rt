@@ -5,19 +5,29 @@ fn put(rt: &impl Print, bytes: &[u8]) {
     let _ = rt.write_all(bytes);
 }
 
-// The line of an answer as every call has it: the line of the script, and the refusal's number.
+// The line of an answer, number by number. Each piece is written by itself, so that on an output that takes no more all goes out that can.
+fn put_line(rt: &impl Print, line: u64, numbers: &[u64]) {
+    let _ = print!(rt; "{line}");
+    for number in numbers {
+        put(rt, b"\t");
+        let _ = print!(rt; "{number}");
+    }
+    put(rt, b"\n");
+}
+
+// As every call has it: the line of the script, and the refusal's number.
 pub(crate) fn answered(rt: &impl Print, line: u64, ruling: Result<(), Refusal>) {
-    let _ = println!(rt; "{line}\t{}", refusal::number(ruling));
+    put_line(rt, line, &[u64::from(refusal::number(ruling))]);
 }
 
 // With how many past setpoints or samples were accepted, or how many bytes were printed.
 pub(crate) fn counted(rt: &impl Print, line: u64, ruling: Result<(), Refusal>, count: u64) {
-    let _ = println!(rt; "{line}\t{}\t{count}", refusal::number(ruling));
+    put_line(rt, line, &[u64::from(refusal::number(ruling)), count]);
 }
 
 // With how many contracts there are in each direction.
 pub(crate) fn counted_both(rt: &impl Print, line: u64, above: u64, below: u64) {
-    let _ = println!(rt; "{line}\t0\t{above}\t{below}");
+    put_line(rt, line, &[0, above, below]);
 }
 
 // The text that was printed at the start of a buffer.

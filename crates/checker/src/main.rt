@@ -28,6 +28,8 @@ impl Blocks for Checking {
 
     ghost stopped = { λ checking. stopped_at checking.reader.checker.stage };
 
+    ghost room = { 128 };
+
     // what the check says of an input is proved of the reader (crates/verdict); here nothing is said of it
     ghost through = { λ checking bytes last. Unit };
 

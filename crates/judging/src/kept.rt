@@ -1,6 +1,6 @@
 // What is kept of a quarter hour until its shares come: the gaps and the surplus of each direction, by the figures of its sheets.
-ghost use Rattle.std.specs.Prelude.{◌≡◌};
-ghost use Rattle.judging.specs.Kept.{gap_in, gap_on, row_of, kept_in, SameLists, kept_of, with_row, with_share};
+ghost use Rattle.std.specs.Prelude.{◌≡◌, List, ℤ, set};
+ghost use Rattle.judging.specs.Kept.{gap_in, gap_on, row_of, keeping, kept_in, SameLists, kept_of, with_row, with_share};
 
 use quarter::sheet::{Figures, Line, Sheet, Sheets};
 use vocabulary::direction::Direction;
@@ -49,39 +49,60 @@ pub(crate) fn row_of(quarter: u8, direction: Direction) -> usize
     }
 }
 
-// A list is written by its index: after a `get_mut` no proof knows the elements of a slice.
-impl Kept<'_> {
-    // A direction of a quarter hour.
-    fn keep_row(&mut self, row: usize, sheet: Sheet)
-        ensures same { SameLists self.old self.new }
-        ensures is { kept_in self.new ≡ with_row (kept_in self.old) row sheet }
-    {
-        if row < self.surpluses.len() {
-            self.surpluses[row] = sheet.pool.surplus.0;
-        }
-        if row < self.gaps.len() {
-            self.gaps[row] = sheet.lines.map(gap_on);
-        }
+// A direction of a quarter hour. A list is written by its index: after a `get_mut` no proof knows the elements of a slice.
+fn keep_row(gaps: &mut [[u32; 32]], surpluses: &mut [u32], row: usize, sheet: Sheet)
+    ensures { (shares : List ℤ) → with_row (keeping gaps.old surpluses.old shares) row sheet
+        ≡ keeping gaps.new surpluses.new shares }
+{
+    if row < surpluses.len() {
+        surpluses[row] = sheet.pool.surplus.0;
     }
+    if row < gaps.len() {
+        gaps[row] = sheet.lines.map(gap_on);
+    }
+}
 
-    // Both directions of a quarter hour that was taken; nothing is kept where it was refused.
+// Both directions of a quarter hour that was taken; nothing is kept where it was refused. It takes the two lists that it writes.
+pub fn keep(
+    gaps: &mut [[u32; 32]],
+    surpluses: &mut [u32],
+    refusal: Result<(), Refusal>,
+    quarter: u8,
+    sheets: Sheets,
+)
+    ensures { (shares : List ℤ) → kept_of refusal (keeping gaps.old surpluses.old shares) quarter sheets
+        ≡ keeping gaps.new surpluses.new shares }
+{
+    if refusal.is_ok() {
+        let above = row_of(quarter, Direction::Positive);
+        let below = row_of(quarter, Direction::Negative);
+        keep_row(gaps, surpluses, above, sheets.positive);
+        keep_row(gaps, surpluses, below, sheets.negative);
+    }
+}
+
+// The share of a U line, by the number of U lines before it.
+pub fn put_share(shares: &mut [i32], at: usize, kwh: i32)
+    ensures { shares.new ≡ set shares.old at kwh }
+{
+    if at < shares.len() {
+        shares[at] = kwh;
+    }
+}
+
+// The same for whoever has all three lists.
+impl Kept<'_> {
     pub fn keep(&mut self, refusal: Result<(), Refusal>, quarter: u8, sheets: Sheets)
         ensures same { SameLists self.old self.new }
         ensures is { kept_in self.new ≡ kept_of refusal (kept_in self.old) quarter sheets }
     {
-        if refusal.is_ok() {
-            self.keep_row(row_of(quarter, Direction::Positive), sheets.positive);
-            self.keep_row(row_of(quarter, Direction::Negative), sheets.negative);
-        }
+        keep(self.gaps, self.surpluses, refusal, quarter, sheets)
     }
 
-    // The share of a U line, by the number of U lines before it.
     pub fn put_share(&mut self, at: usize, kwh: i32)
         ensures same { SameLists self.old self.new }
         ensures is { kept_in self.new ≡ with_share (kept_in self.old) at kwh }
     {
-        if at < self.shares.len() {
-            self.shares[at] = kwh;
-        }
+        put_share(self.shares, at, kwh)
     }
 }

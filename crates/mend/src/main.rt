@@ -2,6 +2,7 @@
 // blocks and writes out what the reader prints.
 #![tactic(auto)]
 
+ghost use Rattle.mending.specs.Mender.{line_room};
 ghost use Rattle.mendfeed.specs.Reader.{closed_of};
 ghost use Rattle.mendfeed.specs.Feeding.{Through};
 ghost use Rattle.mendfeed.proofs.UsedLaws.{at_end, at_closed};
@@ -21,6 +22,8 @@ impl Blocks for Mending {
     const NAME: &'static str = "mend";
 
     ghost stopped = { λ mending. closed_of mending.0.mender };
+
+    ghost room = { line_room };
 
     ghost through = { λ mending bytes last. Through mending.0 bytes last.0 };
 

@@ -38,7 +38,7 @@ pub struct Fed {
 
 // The reader after some bytes of a block, and the place after what was printed.
 #[derive(Clone, Copy)]
-struct Moved {
+pub struct Moved {
     reader: Reader,
     used: usize,
     next: usize,
@@ -46,7 +46,7 @@ struct Moved {
 
 // Recorded samples that the mender took one after the other: what it holds then, how many there were, and the places after them and after what they printed.
 #[derive(Clone, Copy)]
-struct Ran {
+pub struct Ran {
     mender: Mender,
     rows: u64,
     to: usize,

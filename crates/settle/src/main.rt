@@ -3,6 +3,7 @@
 #![tactic(auto)]
 
 ghost use Rattle.std.specs.Prelude.{◌≡◌, ℕ, ◌+◌, ◌-◌, ◌≤◌, ◌<◌, length, take, drop};
+ghost use Rattle.sheets.specs.Buffer.{buffer_length};
 ghost use Rattle.feed.specs.Reader.{closed_of};
 ghost use Rattle.feed.specs.Feeding.{Through};
 ghost use Rattle.feed.proofs.UsedLaws.{at_end, at_closed};
@@ -25,6 +26,8 @@ impl Blocks for Settling {
     const NAME: &'static str = "settle";
 
     ghost stopped = { λ settling. closed_of settling.0.desk };
+
+    ghost room = { buffer_length };
 
     ghost through = { λ settling bytes last. Through settling.0 bytes last.0 };
 
@@ -83,7 +86,8 @@ fn turn(
     ended: bool,
     out: &mut [u8],
 ) -> Option<usize>
-    requires { all ≤ length block.old }
+    requires all_in_bounds { all ≤ length block.old }
+    requires buffer_length_in_bounds { buffer_length ≤ length out.old }
     ensures fed { (left : ℕ) → result ≡ Some left → Through reader.old.0 (take (all - left) block.old) reader.new.0 }
     ensures kept { (left : ℕ) → result ≡ Some left → take left block.new ≡ take left (drop (all - left) block.old) }
     ensures fewer { (left : ℕ) → result ≡ Some left → (left ≤ all) × (0 < all → left < all) }

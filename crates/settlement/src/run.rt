@@ -188,14 +188,18 @@ impl Run {
     }
 
     // Its past setpoints follow, oldest first.
-    pub fn setpoint(mut self, setpoint: i32) -> Answer
+    pub fn setpoint(self, setpoint: i32) -> Answer
         ensures { result ≡ with_setpoint_of self setpoint }
     {
+        // one way out for each: a run that is put back into itself first is copied twice as often
         let refusal = self.load.setpoint_refusal(self.is_untouched(), setpoint);
-        if refusal.is_ok() {
-            self = self.recalling(setpoint);
+        if refusal.is_err() {
+            return Answer { run: self, refusal };
         }
-        Answer { run: self, refusal }
+        Answer {
+            run: self.recalling(setpoint),
+            refusal,
+        }
     }
 
     // What is wrong with a contract but for a block: the moment, then what the lists of both directions say.

@@ -24,6 +24,9 @@ pub trait Blocks {
     // whether nothing is read any more
     ghost stopped: { Self → Bool };
 
+    // how long a buffer has to be lent, so that what a call prints finds room in it
+    ghost room: { ℕ };
+
     // some bytes were read, in calls on blocks of any length, and this reader came of it
     ghost through: { Self → List ℕ → Self → Type 0 };
 
@@ -34,10 +37,12 @@ pub trait Blocks {
     fn read(&mut self, block: &[u8], out: &mut [u8]) -> Part
         ensures within { result.used ≤ length block.now }
         ensures some { (n : ℕ) → result.printed ≡ Ok n → stopped self.old ≡ false → 0 < length block.now → 0 < result.used }
-        ensures on { (last : Self) → through self.new (drop result.used block.now) last → through self.old block.now last };
+        ensures on { (last : Self) → through self.new (drop result.used block.now) last → through self.old block.now last }
+        ensures prints { room ≤ length out.old → (n : ℕ) × (result.printed ≡ Ok n) × (n ≤ length out.new) };
 
     // The input ended.
-    fn finish(&mut self, out: &mut [u8]) -> Result<usize, Refusal>;
+    fn finish(&mut self, out: &mut [u8]) -> Result<usize, Refusal>
+        ensures prints { room ≤ length out.old → (n : ℕ) × (result ≡ Ok n) × (n ≤ length out.new) };
 
     ghost at_end: { (reader : Self) → through reader [] reader };
 
@@ -64,6 +69,7 @@ pub trait Blocks {
 
     // A block of input, read until it is used up or nothing is read any more; whether all that was printed for it could be written out.
     final fn fed(&mut self, rt: &(impl Print + Eprint), block: &[u8], out: &mut [u8]) -> bool
+        requires { room ≤ length out.old }
         ensures { result ≡ true → through self.old block.now self.new }
     {
         let mut left = block;
@@ -78,13 +84,17 @@ pub trait Blocks {
     }
 
     // The input's end; whether what was printed for it could be written out.
-    final fn ended(&mut self, rt: &(impl Print + Eprint), out: &mut [u8]) -> bool {
+    final fn ended(&mut self, rt: &(impl Print + Eprint), out: &mut [u8]) -> bool
+        requires { room ≤ length out.old }
+    {
         let printed = self.finish(out);
         Self::written(rt, printed, out)
     }
 
     // The whole input, block by block. A read that fails ends it. A proved loop has to end, and nothing says that an input does: it counts as far as none goes.
-    final fn run(&mut self, rt: &(impl Print + Eprint), input: &mut impl Read, out: &mut [u8]) {
+    final fn run(&mut self, rt: &(impl Print + Eprint), input: &mut impl Read, out: &mut [u8])
+        requires { room ≤ length out.old }
+    {
         let mut block = [0u8; BLOCK];
         for _ in 0..u64::MAX {
             let n = if self.stopped() {

@@ -14,13 +14,13 @@ same_left a b e = cc
 
 pub returns-clause-fed : goal.returns-clause-fed
 returns-clause-fed g c = λ left e.
-    let in_all = few _ _ _ c.requires c.fed_length-end.ensures.0 in
+    let in_all = few _ _ _ c.requires.all_in_bounds c.fed_length-end.ensures.0 in
     let end_is : c.fed_length-end.result ≡ c.args.all - left = omega (arith, in_all.0, c.left_over.ensures.0, same_left _ _ e) in
     subst (λ (n : ℕ). Through c.args.reader.now.0 (take n c.args.block.now) c.fed.new.self.0) end_is (c.fed.ensures c.if-not-fed.false)
 
 pub returns-clause-kept : goal.returns-clause-kept
 returns-clause-kept g c = λ left e.
-    let in_all = few _ _ _ c.requires c.fed_length-end.ensures.0 in
+    let in_all = few _ _ _ c.requires.all_in_bounds c.fed_length-end.ensures.0 in
     let end_is : c.fed_length-end.result ≡ c.args.all - c.left_over.result = omega (arith, in_all.0, c.left_over.ensures.0) in
     subst (λ (n : ℕ). take n c.left_over.new.block ≡ take n (drop (c.args.all - n) c.args.block.now)) (same_left _ _ e)
     (c.left_over.ensures.1 ∙ ap (λ (n : ℕ). take c.left_over.result (drop n c.args.block.now)) end_is)
