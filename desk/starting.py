@@ -1,5 +1,6 @@
 """Starts a program with pipes, or a file, in the place of its input and output. The module subprocess does more than that, and takes as long to
 import as a day takes to settle."""
+import contextlib
 import os
 import signal
 
@@ -12,6 +13,7 @@ class Started:
 
     def __init__(self, command, into=None):
         self.stdin, self.returncode, ours = None, None, []
+        _keep_open_files()
         if into is None:
             into, feeding = os.pipe()
             self.stdin = open(feeding, "wb", buffering=0)
@@ -33,7 +35,11 @@ class Started:
     def poll(self, how=os.WNOHANG):
         """how it ended, by a signal below 0; None where it has not"""
         if self.returncode is None:
-            number, status = os.waitpid(self.number, how)
+            try:
+                number, status = os.waitpid(self.number, how)
+            except ChildProcessError:
+                # where the caller ignores SIGCHLD the system takes how it ended; so what it printed has to say it
+                number, status = self.number, 0
             if number:
                 self.returncode = os.waitstatus_to_exitcode(status)
         return self.returncode
@@ -46,3 +52,12 @@ class Started:
         """ends it, where it has not ended"""
         if self.poll() is None:
             os.kill(self.number, signal.SIGKILL)
+
+
+def _keep_open_files():
+    """no program gets the files that the caller has left open for this one"""
+    with contextlib.suppress(OSError):
+        for descriptor in map(int, os.listdir("/proc/self/fd")):
+            # the listing itself is closed by now
+            with contextlib.suppress(OSError):
+                os.set_inheritable(descriptor, descriptor <= 2 and os.get_inheritable(descriptor))
