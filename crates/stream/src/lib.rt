@@ -35,14 +35,16 @@ pub trait Blocks {
 
     // A block, from its start on. What was not used is to be read again.
     fn read(&mut self, block: &[u8], out: &mut [u8]) -> Part
+        requires { room ≤ length out.old }
         ensures within { result.used ≤ length block.now }
         ensures some { (n : ℕ) → result.printed ≡ Ok n → stopped self.old ≡ false → 0 < length block.now → 0 < result.used }
         ensures on { (last : Self) → through self.new (drop result.used block.now) last → through self.old block.now last }
-        ensures prints { room ≤ length out.old → (n : ℕ) × (result.printed ≡ Ok n) × (n ≤ length out.new) };
+        ensures prints { (n : ℕ) × (result.printed ≡ Ok n) × (n ≤ length out.new) };
 
     // The input ended.
     fn finish(&mut self, out: &mut [u8]) -> Result<usize, Refusal>
-        ensures prints { room ≤ length out.old → (n : ℕ) × (result ≡ Ok n) × (n ≤ length out.new) };
+        requires { room ≤ length out.old }
+        ensures prints { (n : ℕ) × (result ≡ Ok n) × (n ≤ length out.new) };
 
     ghost at_end: { (reader : Self) → through reader [] reader };
 
@@ -55,12 +57,13 @@ pub trait Blocks {
         printed: Result<usize, Refusal>,
         out: &[u8],
     ) -> bool
+        requires { (n : ℕ) → printed ≡ Ok n → n ≤ length out.now }
         ensures { result ≡ true → (n : ℕ) × (printed ≡ Ok n) × (n ≤ length out.now) }
     {
         let Ok(n) = printed else {
             return false;
         };
-        if n <= out.len() && rt.write_all(&out[..n]).is_ok() {
+        if rt.write_all(&out[..n]).is_ok() {
             return true;
         }
         let _ = eprint!(rt; "{}: the output could not be written\n", Self::NAME);

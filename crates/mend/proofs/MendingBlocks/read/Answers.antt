@@ -18,7 +18,8 @@ returns-clause-on c = λ last. (step {reader = c.args.self.now.0} {block = c.arg
 
 -- a buffer of the length that is asked for has room for the text of each call
 pub returns-clause-prints : goal.returns-clause-prints
-returns-clause-prints c = λ h.
+returns-clause-prints c =
+    let h = c.requires in
     let y = c.feed-fed.ensures in
     let text = (feed_of (length c.args.out.now) c.args.self.now.0 c.args.block.now).text in
     let printed : c.feed-fed.result.printed ≡ Ok (length text) = ap (λ (f : Fed). f.printed) (answers h y) in

@@ -8,7 +8,8 @@ use Rattle.settle.proofs.SettlingBlocks.finish.Goals as goal
 
 pub returns : goal.returns
 returns c = record {
-  prints = λ h.
+  prints =
+      let h = c.requires in
       let y = c.finish-ended.ensures in
       let text = (finish_of c.args.self.now.0).text in
       let printed : c.finish-ended.result.printed ≡ Ok (length text) = ap (λ (f : Fed). f.printed) (answers h y) in
