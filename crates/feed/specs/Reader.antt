@@ -1,11 +1,12 @@
 -- What the calls of the reader make of a block of input, and of its end (RULES, 'Text').
-use Rattle.std.specs.Prelude.{ℕ, Bool, List, length, Ok, Err}
+use Rattle.std.specs.Prelude.{ℕ, Bool, List, length, Result, Ok, Err}
 use Rattle.lines.specs.Gathering.{empty_gatherer}
 use Rattle.lines.specs.Feed as lines
 use Rattle.lines.specs.Feed.{Outcome}
 use Rattle.sheets.specs.Buffer as buffer
 use Rattle.sheets.specs.Buffer.{buffer_length}
 use Rattle.vocabulary.specs.Stage.{closed_at}
+use Rattle.vocabulary.specs.declared.refusal.Refusal.{Refusal}
 use Rattle.vocabulary.specs.declared.refusal.Refusal.TheVariants.{BufferTooShort}
 use Rattle.text.specs.Desk.{empty_desk, line_turn, finish_turn}
 use Rattle.text.specs.declared.desk.Desk.{Desk}
@@ -43,6 +44,10 @@ unfed_of reader = record { reader = reader; used = 0; printed = Err BufferTooSho
 
 abbrev pub fed_of : Outcome Desk → Fed
 fed_of o = record { reader = reader_of o; used = o.used; printed = Ok (length o.text) }
+
+-- what a call answers that is lent the reader: by the reader that it leaves
+abbrev pub fed_with : Reader → ℕ × Result ℕ Refusal → Fed
+fed_with reader told = record { reader = reader; used = told.0; printed = told.1 }
 
 abbrev pub Yields : List ℕ → Reader → Outcome Desk → Fed → List ℕ → Type 0
 Yields out reader o r out' = buffer.Yields (λ (f : Fed). f.printed) buffer_length out (unfed_of reader) (fed_of o) o.text r out'

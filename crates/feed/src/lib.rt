@@ -9,9 +9,9 @@ ghost use Rattle.settlement.specs.Bare.{whole_of, with_more};
 ghost use Rattle.sheets.specs.Buffer.{buffer_length};
 ghost use Rattle.text.specs.Desk.{Tells, line_turn, quarter_turn, room_at};
 ghost use Rattle.feed.specs.declared.Piece.TheVariants.{Samples};
-ghost use Rattle.feed.specs.Reader.{empty_reader, feed_of, finish_of, Yields};
+ghost use Rattle.feed.specs.Reader.{empty_reader, feed_of, finish_of, fed_with, Yields};
 ghost use Rattle.vocabulary.specs.Stage.{closed_at};
-ghost use Rattle.feed.specs.Steps.{reader_with, desk_with, line_found, Finds, turn_by, Steps, after_of, goes_on, left_of, Reads, fed_by};
+ghost use Rattle.feed.specs.Steps.{reader_with, desk_with, line_found, Finds, turn_by, Steps, after_of, goes_on, left_of, Reads};
 
 use lines::Gatherer;
 use samples::read_samples;
@@ -176,7 +176,9 @@ fn counted(
     }
 }
 
-// A line, for the whole desk.
+// A line, for the whole desk. Not inlined: the room that it takes on the stack is that of a quarter hour again.
+#[cold]
+#[inline(never)]
 fn served(
     desk: BareDesk,
     gatherer: Gatherer,
@@ -277,20 +279,6 @@ fn read_on(
     }
 }
 
-// The answer to a call by what it read.
-fn fed_by(moved: Moved, setpoints: &[i32; 900], actuals: &[i32; 900]) -> Fed
-    ensures { result ≡ fed_by (left_of moved setpoints.now actuals.now) }
-{
-    Fed {
-        reader: Reader {
-            gatherer: moved.gatherer,
-            desk: moved.desk.whole(setpoints, actuals),
-        },
-        used: moved.used,
-        printed: Ok(moved.printed),
-    }
-}
-
 impl Reader {
     // Before the input.
     pub fn new() -> Reader
@@ -314,12 +302,21 @@ impl Reader {
     pub fn feed(self, block: &[u8], out: &mut [u8]) -> Fed
         ensures { Yields out.old self (feed_of self block.now) result out.new }
     {
+        let mut reader = self;
+        let (used, printed) = reader.take_in(block, out);
+        Fed {
+            reader,
+            used,
+            printed,
+        }
+    }
+
+    // As `feed`, for a reader that is lent: how many bytes were used, and what was printed. A reader has 11 KB, which are not copied there and back.
+    pub fn take_in(&mut self, block: &[u8], out: &mut [u8]) -> (usize, Result<usize, Refusal>)
+        ensures { Yields out.old self.old (feed_of self.old block.now) (fed_with self.new result) out.new }
+    {
         if out.len() < BUFFER {
-            return Fed {
-                reader: self,
-                used: 0,
-                printed: Err(Refusal::BufferTooShort),
-            };
+            return (0, Err(Refusal::BufferTooShort));
         }
         let mut setpoints = [0i32; 900];
         let mut actuals = [0i32; 900];
@@ -335,7 +332,9 @@ impl Reader {
             &mut actuals,
             out,
         );
-        fed_by(moved, &setpoints, &actuals)
+        self.gatherer = moved.gatherer;
+        self.desk = moved.desk.whole(&setpoints, &actuals);
+        (moved.used, Ok(moved.printed))
     }
 
     // The input ended.

@@ -40,6 +40,14 @@ module _ {x : ℕ} (byte : x < 256) where
   pub wrapped-other : 9 < less → is_digit x ≡ false
   wrapped-other h = ⊎_elim (λ (a : 48 - x ≡ 0). let high : 57 < x = omega arith in above-digits high) (λ (a : 0 < 48 - x). let low : x < 48 = omega arith in below-digits low) (eq-zero-or-pos (48 - x))
 
+-- a byte less that of 1: one from 1 to 9 is not 0, and any other is no digit but perhaps 0
+module _ {x : ℕ} (byte : x < 256) where
+  pub first-wrapped : (x + 4294967247) % 4294967296 ≤ 8 → x ≡ 48 → ⊥
+  first-wrapped h z = omega arith
+
+  pub past-wrapped : 8 < (x + 4294967247) % 4294967296 → 48 < x → 57 < x
+  past-wrapped h l = omega arith
+
 -- k digits make a value below 10 ^ k
 pub below-million : (v k : ℕ) → v < 10 ^ k → k < 7 → v < 1000000
 below-million v k h l = let few : k ≤ 6 = omega arith in let g : 10 ^ k ≤ 10 ^ 6 = pow-le-pow_right {n = 10} (omega arith) few in omega arith

@@ -6,6 +6,7 @@ pub mod Joined
 pub mod FieldScan
 pub mod PairScan
 pub mod WordLaws
+pub mod ZeroForm
 pub mod FrontScan
 pub mod LineForm
 pub mod LineScan

@@ -1,16 +1,18 @@
 -- A line as it is scanned: each test that fails shows that no sample in range stands there.
 use Rattle.std.specs.Prelude.{Option, Some, None}
-use Rattle.std.proofs.Common.{◌≡◌, ℕ, ◌+◌, ◌<◌, ◌≤◌, List, [], ◌∷◌, length, get_or, drop, sym, refl, ap, ◌∙◌, arith, drop_of_length-le}
+use Rattle.std.proofs.Common.{◌≡◌, ℕ, ◌+◌, ◌-◌, ◌<◌, ◌≤◌, List, [], ◌∷◌, length, get_or, drop, sym, refl, ap, ◌∙◌, arith, drop_of_length-le, lt_of_not-le}
+use native.Mathlib.Decide.{dec_le}
 use Rattle.lines.specs.Lines.{lines_of}
 use Rattle.samples.specs.Scan.{Ended, Closed, Pair, Paired, first_of}
-use Rattle.samples.specs.Front.{Heads, Fronted, Sampled}
+use Rattle.samples.specs.Front.{width_in, Heads, Fronted, Sampled}
 use Rattle.samples.specs.declared.Row.{Row}
 use Rattle.samples.specs.declared.Front.{Front}
 use Rattle.samples.proofs.CutLaws.{no_lines_lem}
 use Rattle.samples.proofs.Places.{next}
 use Rattle.samples.proofs.PowerForm.{behind}
 use Rattle.samples.proofs.FieldScan.{beyond, head_at}
-use Rattle.samples.proofs.PairScan.{from_next as after-pair, pair-setpoint, by_row}
+use Rattle.samples.proofs.FrontScan.{no-letter}
+use Rattle.samples.proofs.PairScan.{from_next as after-pair, pair-within, pair-setpoint, by_row}
 use Rattle.samples.proofs.LineForm.{Shape, shape-first, no-shape}
 
 -- a letter and a tab, and what follows them
@@ -46,7 +48,11 @@ module _ {s : List ℕ} {at : ℕ} {row : Row} (h : Shape s at row) where
         place = h.place;
       }
 
-  heads-in : Heads s at (record { from = at + 2; setpoint = row.setpoint; tab = at + 2 + length h.a })
+  pub shape-within : row.to ≤ length s
+  unfolding pair-in
+  shape-within = pair-within pair-in
+
+  heads-in : Heads s at (record { from = at + 2; setpoint = row.setpoint; tab = at + 2 + length h.a; width = width_in (length s) (at + 2) (at + 2 + length h.a) })
   unfolding pair-in
   heads-in =
       record {
@@ -54,6 +60,7 @@ module _ {s : List ℕ} {at : ℕ} {row : Row} (h : Shape s at row) where
         first_tab = tab-there s at 83 h.form;
         from = refl;
         field = pair-setpoint pair-in;
+        width = refl;
       }
 
   pub from_next : drop row.to s ≡ h.rest
@@ -109,6 +116,15 @@ module _ {s : List ℕ} {at : ℕ} where
         front = λ g r e. (let p : ◌≡◌ {A = Front × Row} (f, row) (g, r) = cc in let k : f ≡ g = ap (λ (q : Front × Row). q.0) p in rw (← k) h);
       }
 
-  pub past-lines : length s ≤ at → Sampled s at None
+  past-lines : length s ≤ at → Sampled s at None
   unfolding first_of
   past-lines h = no-sample (record { is = rw (drop_of_length-le s h, no_lines_lem) })
+
+  -- what is left is at most the LF of the last line
+  pub few-left : at ≤ length s → (at < length s → Ended s at) → length s - at < 2 → Sampled s at None
+  few-left within ended h =
+      elim (dec_le (length s) at) [
+        | yes k ↦ past-lines k
+        | no k ↦ (let e = ended (lt_of_not-le k) in let last : at ≡ length s - 1 = omega arith in
+            no-sample (no_front_lem (no-letter (λ l. let z : get_or s at 0 ≡ 10 = rw last e.ended in (omega arith)))))
+      ]

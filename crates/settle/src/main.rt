@@ -36,12 +36,8 @@ impl Blocks for Settling {
     }
 
     fn read(&mut self, block: &[u8], out: &mut [u8]) -> Part {
-        let fed = self.0.feed(block, out);
-        self.0 = fed.reader;
-        Part {
-            used: fed.used,
-            printed: fed.printed,
-        }
+        let (used, printed) = self.0.take_in(block, out);
+        Part { used, printed }
     }
 
     fn finish(&mut self, out: &mut [u8]) -> Result<usize, Refusal> {

@@ -8,20 +8,20 @@ use Rattle.feed.proofs.UsedLaws.{called}
 use Rattle.settle.proofs.SettlingBlocks.read.Goals as goal
 
 pub returns-clause-within : goal.returns-clause-within
-returns-clause-within c = (called {reader = c.args.self.now.0} {block = c.args.block.now} c.feed-fed.ensures).within
+returns-clause-within c = (called {reader = c.args.self.now.0} {block = c.args.block.now} c.take_in-used.ensures).within
 
 pub returns-clause-some : goal.returns-clause-some
-returns-clause-some c = (called {reader = c.args.self.now.0} {block = c.args.block.now} c.feed-fed.ensures).some
+returns-clause-some c = (called {reader = c.args.self.now.0} {block = c.args.block.now} c.take_in-used.ensures).some
 
 pub returns-clause-on : goal.returns-clause-on
-returns-clause-on c = λ last. (called {reader = c.args.self.now.0} {block = c.args.block.now} c.feed-fed.ensures).on last.0
+returns-clause-on c = λ last. (called {reader = c.args.self.now.0} {block = c.args.block.now} c.take_in-used.ensures).on last.0
 
 -- a buffer of the length that is asked for has room for the text of each call
 pub returns-clause-prints : goal.returns-clause-prints
 returns-clause-prints c =
     let h = c.requires in
-    let y = c.feed-fed.ensures in
+    let y = c.take_in-used.ensures in
     let text = (feed_of c.args.self.now.0 c.args.block.now).text in
-    let printed : c.feed-fed.result.printed ≡ Ok (length text) = ap (λ (f : Fed). f.printed) (answers h y) in
-    let same : length c.feed-fed.new.out ≡ length c.args.out.now = same_length h y refl in
+    let printed : c.take_in-used.result.1 ≡ Ok (length text) = ap (λ (f : Fed). f.printed) (answers h y) in
+    let same : length c.take_in-used.new.out ≡ length c.args.out.now = same_length h y refl in
     (length text, printed, omega (arith, y.room, ap length_of printed, same))
